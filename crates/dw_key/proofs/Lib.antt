@@ -1,0 +1,9 @@
+pub mod Pads
+pub mod DocKeyLaws
+pub mod TypeNames
+pub mod Escapes
+pub mod Stamps
+pub mod Codes
+pub mod Places
+pub mod Ends
+pub mod Faults

@@ -1,0 +1,36 @@
+ghost use Rattle.std.specs.Prelude.{◌≡◌, ◌++◌, OnOk, IfOk};
+ghost use Rattle.dw_key.specs.KeyCode.{code, part_code};
+
+use crate::OutOfMemory;
+use crate::bytes::Bytes;
+use crate::key::Key;
+use std::alloc::Global;
+
+/// The one code of the key: row, family, qualifier and visibility, each with its bytes 0 written as
+/// 0 and 255 and ended by the bytes 0 and 0, and then 8 bytes, the highest first, of the distance
+/// of the stamp from `u64::MAX`. Codes compare as their keys do.
+pub fn encode(alloc: Global, key: &Key) -> Result<Bytes, OutOfMemory>
+    ensures { IfOk result (λ b. b ≡ code key.now) }
+{
+    let mut out = Vec::new(alloc);
+    put_part(&mut out, key.row.as_slice())?;
+    put_part(&mut out, key.family.as_slice())?;
+    put_part(&mut out, key.qualifier.as_slice())?;
+    put_part(&mut out, key.vis.as_slice())?;
+    out.extend_from_slice(&(u64::MAX - key.stamp).to_be_bytes())?;
+    Ok(Bytes::from_vec(out))
+}
+
+fn put_part(out: &mut Vec<u8>, part: &[u8]) -> Result<(), OutOfMemory>
+    ensures { OnOk result (out.new.items ≡ out.old.items ++ part_code part.now) }
+{
+    for byte in part {
+        if *byte == 0 {
+            out.extend_from_slice(&[0, 255])?;
+        } else {
+            out.push(*byte)?;
+        }
+    }
+    out.extend_from_slice(&[0, 0])?;
+    Ok(())
+}
