@@ -1,0 +1,4 @@
+pub mod Sorted
+pub mod CellOrder
+pub mod Apart
+pub mod Spelling

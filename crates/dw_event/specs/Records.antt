@@ -1,0 +1,42 @@
+-- Records, and the bytes by which they are told apart.
+use Rattle.std.specs.Prelude.{◌≡◌, ℕ, Bool, ◌&&◌, nat_le, IsTrue, List, [], ◌∷◌, ◌++◌, length}
+use Rattle.std.specs.List.{list_all}
+use Rattle.dw_key.specs.TypeName.{is_type_name}
+use Rattle.dw_event.specs.declared.cells.EventCell.{EventCell}
+use Rattle.dw_event.specs.declared.records.Record.{Record}
+use Rattle.dw_event.specs.Names.{is_field_name, is_raw_value}
+use Rattle.dw_event.specs.Days.{names_day}
+
+-- a text and the byte 0 that ends it
+abbrev pub ended : List ℕ → List ℕ
+ended text = text ++ 0 ∷ []
+
+-- the field, the raw value and an empty visibility, each ended
+abbrev pub cell_canon : EventCell → List ℕ
+cell_canon cell = ended cell.field ++ ended cell.raw ++ ended []
+
+-- the bytes of cells, one after another
+abbrev pub cells_canon : List EventCell → List ℕ
+cells_canon [] = []
+cells_canon (c ∷ cs) = cell_canon c ++ cells_canon cs
+
+-- the canonical bytes of a record: its type and its date, each ended, and its cells
+abbrev pub canon : Record → List ℕ
+canon r = ended r.dtype ++ ended r.date ++ cells_canon r.cells
+
+-- a field and a raw value by their rules
+abbrev pub is_cell : EventCell → Bool
+is_cell cell = is_field_name cell.field && is_raw_value cell.raw
+
+-- a type by its rule, a date that names a day, 1 to 4,096 cells by their rules, and at most 65,536 canonical bytes
+abbrev pub is_well_formed : Record → Bool
+is_well_formed r =
+    is_type_name r.dtype && names_day r.date && nat_le 1 (length r.cells) && nat_le (length r.cells) 4096
+    && list_all is_cell r.cells && nat_le (length (canon r)) 65536
+
+abbrev pub IsWellFormed : Record → Type 0
+IsWellFormed r = IsTrue (is_well_formed r)
+
+-- two well-formed records with one list of canonical bytes are one
+abbrev pub CanonTellsApart : Type 0
+CanonTellsApart = (r s : Record) → IsWellFormed r → IsWellFormed s → canon r ≡ canon s → r ≡ s

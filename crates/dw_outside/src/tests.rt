@@ -1,0 +1,115 @@
+ghost use Rattle.std.specs.Prelude.{◌≡◌, IfOk};
+
+use crate::{Failed, MemSink, MemSource, Sink, Source, StdInput, StdOutput};
+use dw_key::Bytes;
+use std::io;
+use std::io::{Cursor, Error, ErrorKind, Read, Write};
+use std::test::Fail;
+
+#[test]
+fn a_source_gives_pieces_and_fails_at_the_named_call(rt: HostRuntime) -> Result<(), Fail> {
+    let alloc = rt.alloc();
+    let bytes = Bytes::of(alloc, b"abcdefg")?;
+    let mut source = MemSource::new(bytes, 3, vec![in alloc; 2u64]?);
+    let calls = [
+        (Ok(3), b"abc\0"),
+        (Err(Failed), b"\0\0\0\0"),
+        (Ok(3), b"def\0"),
+        (Ok(1), b"g\0\0\0"),
+        (Ok(0), b"\0\0\0\0"),
+    ];
+    for (answer, given) in calls {
+        let mut buf = [0u8; 4];
+        assert_eq!(rt; source.take(&mut buf), answer);
+        assert_eq!(rt; buf, *given);
+    }
+    Ok(())
+}
+
+#[test]
+fn a_sink_takes_what_fits_and_fails_once_full(rt: HostRuntime) -> Result<(), Fail> {
+    let alloc = rt.alloc();
+    let mut sink = MemSink::new(alloc, 5, vec![in alloc; 2u64]?)?;
+    let calls = [
+        (b"abc", Ok(3)),
+        (b"xyz", Err(Failed)),
+        (b"def", Ok(2)),
+        (b"ghi", Err(Failed)),
+    ];
+    for (piece, answer) in calls {
+        assert_eq!(rt; sink.put(piece), answer);
+    }
+    assert_eq!(rt; sink.put(b""), Ok(0));
+    assert_eq!(rt; sink.bytes(), b"abcde".as_slice());
+    Ok(())
+}
+
+/// Interrupted at the first call, one byte at the second, and broken from then on.
+#[derive(Drop)]
+struct Broken {
+    calls: u8,
+}
+
+impl Broken {
+    fn count(&mut self) -> io::Result<usize>
+        ensures { IfOk result (λ n. n ≡ 1) }
+    {
+        self.calls = self.calls.saturating_add(1);
+        match self.calls {
+            1 => Err(Error::from(ErrorKind::Interrupted)),
+            2 => Ok(1),
+            _ => Err(Error::from(ErrorKind::BrokenPipe)),
+        }
+    }
+}
+
+impl Read for Broken {
+    fn read(&mut self, buf: &mut [u8]) -> io::Result<usize> {
+        if buf.is_empty() {
+            return Ok(0);
+        }
+        let count = self.count()?;
+        buf[0] = b'x';
+        Ok(count)
+    }
+}
+
+impl Write for Broken {
+    fn write(&mut self, buf: &[u8]) -> io::Result<usize> {
+        if buf.is_empty() {
+            return Ok(0);
+        }
+        self.count()
+    }
+
+    fn flush(&mut self) -> io::Result<()> {
+        Ok(())
+    }
+}
+
+#[test]
+fn a_reader_is_a_source(rt: HostRuntime) {
+    let mut input = StdInput::new(Cursor::new(b"abc".as_slice()));
+    let mut buf = [0u8; 2];
+    assert_eq!(rt; input.take(&mut buf), Ok(2));
+    assert_eq!(rt; buf, *b"ab");
+    assert_eq!(rt; input.take(&mut buf), Ok(1));
+    assert_eq!(rt; buf, *b"cb");
+    assert_eq!(rt; input.take(&mut buf), Ok(0));
+    let mut broken = StdInput::new(Broken { calls: 0 });
+    assert_eq!(rt; broken.take(&mut buf), Ok(1));
+    assert_eq!(rt; buf, *b"xb");
+    assert_eq!(rt; broken.take(&mut buf), Err(Failed));
+}
+
+#[test]
+fn a_writer_is_a_sink(rt: HostRuntime) {
+    let mut output = StdOutput::new(rt.stdout());
+    assert_eq!(rt; output.put(b"taken\n"), Ok(6));
+    assert_eq!(rt; output.put(b""), Ok(0));
+    let mut broken = StdOutput::new(Broken { calls: 0 });
+    assert_eq!(rt; broken.put(b"ab"), Ok(1));
+    assert_eq!(rt; broken.put(b"ab"), Err(Failed));
+    let mut full = StdOutput::new(Cursor::new([0u8; 0]));
+    assert_eq!(rt; full.put(b"ab"), Err(Failed));
+}
