@@ -1,0 +1,4 @@
+pub mod Counter
+pub mod Drawn
+pub mod Numbers
+pub mod Waves
