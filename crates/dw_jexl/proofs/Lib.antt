@@ -1,0 +1,12 @@
+pub mod Runs
+pub mod Words
+pub mod Strings
+pub mod Pieces
+pub mod Cutting
+pub mod Walking
+pub mod First
+pub mod Steps
+pub mod Sound
+pub mod Complete
+pub mod Verdict
+pub mod Texts

@@ -1,0 +1,23 @@
+//! Query texts: what they spell, and the one text of each query.
+#![tactic(auto)]
+
+mod depth;
+mod error;
+mod lex;
+mod parsing;
+mod pattern;
+mod printing;
+mod query;
+mod reading;
+mod token;
+mod word;
+
+pub use error::{QueryError, QueryRule};
+pub use parsing::parse;
+pub use printing::print;
+pub use query::{Op, Query};
+pub use std::alloc::AllocError as OutOfMemory;
+pub use word::Word;
+
+#[cfg(test)]
+mod tests;

@@ -1,0 +1,55 @@
+//! The query of a text.
+
+ghost use Rattle.std.specs.Prelude.{◌≡◌, IfOk, Ok, Err, ◌⊎◌};
+ghost use Rattle.dw_jexl.specs.Spelling.{Spells, Breaks, Answers};
+
+use crate::depth::is_deep;
+use crate::error::{QueryError, QueryRule};
+use crate::query::Query;
+use crate::word::characters;
+use crate::{lex, pattern, reading};
+use std::alloc::Global;
+
+/// The most bytes of a text.
+const MAX_BYTES: usize = 16_384;
+
+/// The most leaves of a query.
+const MAX_LEAVES: u64 = 256;
+
+fn read(alloc: Global, text: &str) -> Result<Query, QueryError>
+    ensures { Answers text.now result }
+{
+    if text.len() > MAX_BYTES {
+        return Err(QueryError::Rule(QueryRule::TooLong));
+    }
+    let chars = characters(alloc, text)?;
+    let (tokens, at) = lex::tokens(alloc, &chars)?;
+    if is_deep(alloc, &tokens)? {
+        return Err(QueryError::Rule(QueryRule::TooDeep));
+    }
+    if at < chars.len() {
+        return Err(QueryError::Rule(QueryRule::Syntax));
+    }
+    let query = reading::whole(alloc, &tokens)?;
+    if query.leaves() > MAX_LEAVES {
+        return Err(QueryError::Rule(QueryRule::TooMany));
+    }
+    if !pattern::are_right(alloc, &tokens)? {
+        return Err(QueryError::Rule(QueryRule::Pattern));
+    }
+    Ok(query)
+}
+
+/// The query that a text spells, or the first rule that it breaks.
+pub fn parse(alloc: Global, text: &str) -> Result<Query, QueryError>
+    // What is read is spelt by the text.
+    ensures spelt { IfOk result (λ q. Spells text.now q) }
+    // What the text spells is read, unless memory runs out.
+    ensures only { (q : Query) → Spells text.now q → (result ≡ Ok q) ⊎ (result ≡ Err QueryError.OutOfMemory) }
+    // The rule is the first that the text breaks.
+    ensures refused { (r : QueryRule) → result ≡ Err (QueryError.Rule r) → Breaks r text.now }
+    // A text that breaks a rule is refused by it, unless memory runs out.
+    ensures refuses { (r : QueryRule) → Breaks r text.now → (result ≡ Err (QueryError.Rule r)) ⊎ (result ≡ Err QueryError.OutOfMemory) }
+{
+    read(alloc, text)
+}

@@ -1,0 +1,102 @@
+ghost use Rattle.std.specs.Cmp.Lexicographic.{pointwise};
+ghost use Rattle.std.specs.Cmp.Rules.{comparing};
+ghost use Rattle.std.proofs.Common.{rules};
+ghost use Rattle.std.specs.Prelude.{nat_eq, ◌≡◌, [], ◌∷◌, ◌++◌, IfOk, OnOk, chars, encode_utf8_all, string_bytes};
+
+use std::alloc::{AllocError, Global};
+use std::marker::Model;
+
+/// A text, seen as the list of its characters, each by its code point.
+#[derive(Debug, Drop)]
+pub struct Word {
+    inner: String,
+}
+
+impl Model for Word {
+    ghost use Rattle.std.specs.Prelude.{List, ℕ, string_bytes, chars};
+
+    ghost Value = { List ℕ };
+
+    ghost view = { λ w. chars (string_bytes w.inner) };
+}
+
+impl Word {
+    /// A copy of the text.
+    pub fn of(alloc: Global, text: &str) -> Result<Word, AllocError>
+        ensures { IfOk result (λ w. w ≡ chars text.now) }
+    {
+        let inner = String::from_str(alloc, text)?;
+        Ok(Word { inner })
+    }
+
+    /// Its text, in UTF-8.
+    pub fn as_str(&self) -> &str
+        ensures characters { chars result.now ≡ self.now }
+        ensures bytes { result.now ≡ encode_utf8_all self.now }
+    {
+        self.inner.as_str()
+    }
+
+    /// An equal word.
+    pub fn copy(&self) -> Result<Word, AllocError>
+        ensures { IfOk result (λ w. w ≡ self.now) }
+    {
+        let inner = self.inner.clone()?;
+        Ok(Word { inner })
+    }
+
+    /// The empty word, which takes no memory.
+    pub(crate) fn new(alloc: Global) -> Word
+        ensures { result ≡ [] }
+    {
+        Word {
+            inner: String::new(alloc),
+        }
+    }
+
+    pub(crate) fn push(&mut self, character: char) -> Result<(), AllocError>
+        ensures { OnOk result (self.new ≡ self.old ++ character ∷ []) }
+    {
+        self.inner.push(character)
+    }
+
+    /// The text itself.
+    pub(crate) fn into_text(self) -> String
+        ensures { chars (string_bytes result) ≡ self }
+    {
+        let Word { inner } = self;
+        inner
+    }
+
+    /// The word of these characters.
+    pub(crate) fn from_chars(alloc: Global, characters: &[char]) -> Result<Word, AllocError>
+        ensures { IfOk result (λ w. w ≡ characters.now) }
+    {
+        let mut word = Word::new(alloc);
+        for character in characters {
+            word.push(*character)?;
+        }
+        Ok(word)
+    }
+}
+
+impl PartialEq for Word {
+    ghost eq = { pointwise nat_eq };
+
+    ghost laws = { Prim.search (comparing, rules) };
+
+    fn eq(&self, other: &Word) -> bool {
+        self.inner == other.inner
+    }
+}
+
+impl Eq for Word {
+    ghost laws = { Prim.search (comparing, rules) };
+}
+
+/// The characters of a text.
+pub(crate) fn characters(alloc: Global, text: &str) -> Result<Vec<char>, AllocError>
+    ensures { IfOk result (λ v. v.items ≡ chars text.now) }
+{
+    text.chars().collect(alloc)
+}
