@@ -1,0 +1,12 @@
+pub mod Order
+pub mod Lists
+pub mod Trees
+pub mod Alike
+pub mod Values
+pub mod Choices
+pub mod Weights
+pub mod Left
+pub mod Rounds
+pub mod Nodes
+pub mod Kept
+pub mod Finds

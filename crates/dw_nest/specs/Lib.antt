@@ -1,0 +1,6 @@
+pub mod Bounds
+pub mod Kleene
+pub mod Places
+pub mod Shapes
+pub mod Search
+pub mod Leaves
