@@ -1,0 +1,16 @@
+pub mod Taking
+pub mod Paging
+pub mod TypeNames
+pub mod WritingFields
+pub mod WritingLists
+pub mod CallerLemmas
+pub mod DeskLemmas
+pub mod ReadingCells
+pub mod ReadingNumbers
+pub mod ReadingQueries
+pub mod ReadingRecords
+pub mod Sessions
+pub mod Feeds
+pub mod Counting
+pub mod Pieces
+pub mod Running

@@ -1,0 +1,15 @@
+use Rattle.datawave.specs.ReplyText.{reply_text}
+use Rattle.datawave.specs.Desk.{world_of}
+use Rattle.datawave.proofs.Counting.{answers_from}
+use Rattle.datawave.proofs.DeskLemmas.{if_ok_of_err, on_err_always}
+use Rattle.datawave.proofs.exchange.answer_line.Goals as goal
+
+pub returns-in_err-bytes-in_default : goal.returns-in_err-bytes-in_default
+returns-in_err-bytes-in_default g c = record {
+  text = if_ok_of_err c.from_residual.result _ c.from_residual.ensures.0;
+  err = on_err_always c.from_residual.result
+      (λ bytes e. (
+        reply_text c.answer.result,
+        answers_from g.U.UidMaker.digest (world_of c.args.desk.now) (world_of c.answer.new.self) bytes c.in-Ok.request c.answer.result (c.in-Ok.ensures.request bytes e) c.answer.ensures,
+      ));
+}

@@ -1,0 +1,103 @@
+//! An event store that answers request lines: events with many values per field are taken in, and
+//! found by queries.
+#![tactic(auto)]
+
+ghost use Rattle.std.specs.Prelude.{◌≡◌, ◌↔◌, false};
+ghost use Rattle.dw_outside.specs.Faults.{Rose};
+ghost use Rattle.datawave.specs.Session.{Runs};
+ghost use Rattle.datawave.specs.Words.{is_exec};
+
+mod caller;
+mod callers;
+mod command;
+mod desk;
+mod exchange;
+mod exec;
+mod line;
+mod listed;
+mod page;
+mod read_line;
+mod reply;
+mod request;
+mod status;
+mod take;
+mod write_reply;
+
+use command::is_exec_command;
+use dw_event::{ShaUid, UidMaker};
+use dw_key::Text;
+use dw_outside::{Sink, Source, StdInput, StdOutput};
+use exec::exec;
+use status::Status;
+use std::alloc::Global;
+use std::env;
+use std::io::ErrorKind;
+use std::process::ExitCode;
+
+#[tactic(auto, using(crate::proofs::Running::ends_bad_words))]
+/// Does all that the program does: reads request lines from the input and writes a reply line for each
+/// to the output.
+pub fn run<S: Source, O: Sink, U: UidMaker>(
+    alloc: Global,
+    words: &[Text],
+    input: &mut S,
+    output: &mut O,
+    uids: &U,
+) -> Status
+    // What was read, what was answered and what was written, at each end.
+    ensures runs { Runs U.digest result (S.left input.old) (S.left input.new) (O.taken output.old) (O.taken output.new) }
+
+    // When each status comes.
+    ensures bad_words { (result ≡ Status.BadWords) ↔ (is_exec words.now ≡ false) }
+    ensures untouched { result ≡ Status.BadWords → (input.new ≡ input.old) × (output.new ≡ output.old) }
+    ensures read_fault { result ≡ Status.ReadFault → Rose (S.faults input.old) (S.faults input.new) }
+    ensures write_fault { result ≡ Status.WriteFault → Rose (O.faults output.old) (O.faults output.new) }
+{
+    if !is_exec_command(words) {
+        return Status::BadWords;
+    }
+    exec(alloc, input, output, uids)
+}
+
+/// The words after the program's name, or how the run ends where there are none to be had. A word that
+/// is not UTF-8 is no word of a command.
+fn words_of(rt: &HostRuntime) -> Result<Vec<Text>, Status> {
+    let args = match env::args(rt) {
+        Ok(args) => args,
+        Err(error) => return Err(fault_of(error.kind())),
+    };
+    let mut words = Vec::new(rt.alloc());
+    for word in args.skip(1) {
+        if words.push(Text::from_string(word)).is_err() {
+            return Err(Status::OutOfMemory);
+        }
+    }
+    Ok(words)
+}
+
+fn fault_of(kind: ErrorKind) -> Status {
+    match kind {
+        ErrorKind::OutOfMemory => Status::OutOfMemory,
+        _ => Status::BadWords,
+    }
+}
+
+fn main(rt: HostRuntime) -> ExitCode {
+    let status = match words_of(&rt) {
+        Ok(words) => run(
+            rt.alloc(),
+            words.as_slice(),
+            &mut StdInput::new(rt.stdin()),
+            &mut StdOutput::new(rt.stdout()),
+            &ShaUid,
+        ),
+        Err(status) => status,
+    };
+    if status != Status::Done {
+        let _ = eprintln!(rt; "datawave: {}", status.text());
+    }
+    ExitCode::from(status.code())
+}
+
+#[cfg(test)]
+mod tests;
