@@ -14,3 +14,4 @@ pub mod Feeds
 pub mod Counting
 pub mod Pieces
 pub mod Running
+pub mod LawLemmas

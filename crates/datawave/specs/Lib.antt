@@ -15,3 +15,4 @@ pub mod Session
 pub mod Exchange
 pub mod Texts
 pub mod Statuses
+pub mod Laws

@@ -13,6 +13,7 @@ mod command;
 mod desk;
 mod exchange;
 mod exec;
+mod laws;
 mod line;
 mod listed;
 mod page;
