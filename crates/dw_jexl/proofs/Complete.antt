@@ -15,20 +15,20 @@ use Rattle.dw_jexl.specs.Reading.{if_field, field_at, op_at, text_at, quoted_at,
 
 -- how deep groups stand in one another
 abbrev mutual
-  nest : Disjunction → ℕ
+  pub nest : Disjunction → ℕ
   nest (one c) = nest_conjunction c
   nest (more c d) = max (nest_conjunction c) (nest d)
 
-  nest_conjunction : Conjunction → ℕ
+  pub nest_conjunction : Conjunction → ℕ
   nest_conjunction (alone u) = nest_unary u
   nest_conjunction (joins u c) = max (nest_unary u) (nest_conjunction c)
 
-  nest_unary : Unary → ℕ
+  pub nest_unary : Unary → ℕ
   nest_unary (operand o) = nest_operand o
   nest_unary (comparison f ok op l) = 0
   nest_unary (matching f ok n raw) = 0
 
-  nest_operand : Operand → ℕ
+  pub nest_operand : Operand → ℕ
   nest_operand (negation o) = nest_operand o
   nest_operand (group d) = suc (nest d)
   nest_operand (bounded a b fa fb q e) = 0
@@ -261,12 +261,10 @@ disjunction_read : (d : Disjunction) (n : ℕ) (rest : List Token) → nest d �
 disjunction_read d n rest h x y =
     disjunction_from d n rest (disjuncts_read d n (length (disjunction_before d rest)) rest h (omega (arith, disjunct_room d rest)) x y)
 
--- each sentence of the grammar is read as the query that it stands for
-pub whole_read : (ts : List Token) (d : Disjunction) → ts ≡ disjunction_before d [] → whole ts ≡ Some (query_of d)
+-- each sentence of the grammar is read as the query that it stands for, where its groups stand less deep
+pub whole_read : (levels : ℕ) (ts : List Token) (d : Disjunction) → nest d < levels → ts ≡ disjunction_before d [] → whole levels ts ≡ Some (query_of d)
 unfolding whole
-whole_read ts d e =
-    let r = room d [] in
-    let n : length (disjunction_before d []) + 1 ≡ suc (length (disjunction_before d [])) = omega arith in
-    ap (λ us. option_and_then if_ended (query_at (length us + 1) us)) e
-    ∙ ap (λ k. option_and_then if_ended (query_at k (disjunction_before d []))) n
-    ∙ ap (option_and_then if_ended) (disjunction_read d (length (disjunction_before d [])) [] (omega (arith, r)) refl refl)
+whole_read zero ts d n e = absurd (omega arith)
+whole_read (suc levels) ts d n e =
+    ap (λ us. option_and_then if_ended (query_at (suc levels) us)) e
+    ∙ ap (option_and_then if_ended) (disjunction_read d levels [] (omega arith) refl refl)

@@ -8,5 +8,11 @@ pub mod First
 pub mod Steps
 pub mod Sound
 pub mod Complete
+pub mod Nesting
 pub mod Verdict
 pub mod Texts
+pub mod Upper
+pub mod Named
+pub mod Written
+pub mod Wildcards
+pub mod Again

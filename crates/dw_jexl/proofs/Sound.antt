@@ -284,11 +284,11 @@ query_sound zero = record { spelt = λ ts q rest h. let no_query : None ≡ Some
 query_sound (suc n) = record { spelt = λ ts q rest h. (disjunction_sound (query_at n) (query_sound n)).spelt ts q rest h }
 
 -- all of the tokens, as they are read, are a sentence
-pub whole_sound : (ts : List Token) (q : Query) → whole ts ≡ Some q → (d : Disjunction) × (ts ≡ disjunction_before d []) × (q ≡ query_of d)
+pub whole_sound : (levels : ℕ) (ts : List Token) (q : Query) → whole levels ts ≡ Some q → (d : Disjunction) × (ts ≡ disjunction_before d []) × (q ≡ query_of d)
 unfolding whole
-whole_sound ts q h =
-    let p = and_then_parts (query_at (length ts + 1) ts) if_ended q h in
+whole_sound levels ts q h =
+    let p = and_then_parts (query_at levels ts) if_ended q h in
     let g = guard_parts (length p.0.1 == 0) (Some p.0.0) q p.2 in
-    let d = (query_sound (length ts + 1)).spelt ts p.0.0 p.0.1 p.1 in
+    let d = (query_sound levels).spelt ts p.0.0 p.0.1 p.1 in
     let none_left : p.0.1 ≡ [] = nil_from_length p.0.1 ((Decides-eqb (length p.0.1) 0).0 g.0) in
     (d.0, d.1 ∙ ap (disjunction_before d.0) none_left, sym (ap (λ o. unwrap_or o q) g.1) ∙ d.2)

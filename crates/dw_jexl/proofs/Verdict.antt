@@ -1,5 +1,5 @@
 -- What a text spells and which rule it breaks, each at most one.
-use Rattle.std.proofs.Common.{◌≡◌, ℕ, ◌<◌, ◌≤◌, true, false, List, [], ◌∷◌, length, drop, Some, None, Result, Ok, Err, refl, sym, ap, ◌∙◌, subst, arith, inl, inr, ◌⊎◌}
+use Rattle.std.proofs.Common.{◌≡◌, ℕ, ◌+◌, ◌<◌, ◌≤◌, true, false, List, [], ◌∷◌, length, drop, Some, None, Result, Ok, Err, refl, sym, ap, ◌∙◌, subst, arith, inl, inr, ◌⊎◌}
 use Rattle.std.specs.Prelude.{chars, unwrap_or}
 use Rattle.std.proofs.lemmas.Option.{some_pair_parts}
 use Rattle.std.proofs.lemmas.List.{drop_all, length-drop}
@@ -16,7 +16,8 @@ use Rattle.dw_jexl.specs.Reading.{Fails, whole}
 use Rattle.dw_jexl.specs.Patterns.{are_right}
 use Rattle.dw_jexl.specs.Spelling.{IsSentence, IsShallow, IsSpeltBy, Spells, Breaks, Answers}
 use Rattle.dw_jexl.proofs.Sound.{whole_sound}
-use Rattle.dw_jexl.proofs.Complete.{whole_read}
+use Rattle.dw_jexl.proofs.Complete.{nest, whole_read}
+use Rattle.dw_jexl.proofs.Nesting.{shallow_nest}
 
 -- characters are read into one list of tokens
 same_at : (ts us : List Token) (cs rest left : List ℕ) → AreReadAt cs ts rest → AreReadAt cs us left → (ts ≡ us) × (rest ≡ left)
@@ -32,14 +33,16 @@ pub same_tokens : (cs : List ℕ) (ts us : List Token) (rest left : List ℕ) �
 same_tokens cs ts us rest left a b = same_at ts us (past_blanks cs) rest left a b
 
 -- tokens are a sentence for one query, the one that is read
-read_is : (ts : List Token) (q : Query) → IsSentence ts q → whole ts ≡ Some q
-read_is ts q s = whole_read ts s.0 s.1 ∙ ap Some (sym s.2)
+read_is : (levels : ℕ) (ts : List Token) (q : Query) (s : IsSentence ts q) → nest s.0 < levels → whole levels ts ≡ Some q
+read_is levels ts q s n = whole_read levels ts s.0 n s.1 ∙ ap Some (sym s.2)
 
-pub sentence_is : (ts : List Token) (q : Query) → whole ts ≡ Some q → IsSentence ts q
-sentence_is ts q h = whole_sound ts q h
+pub sentence_is : (levels : ℕ) (ts : List Token) (q : Query) → whole levels ts ≡ Some q → IsSentence ts q
+sentence_is levels ts q h = whole_sound levels ts q h
 
 one_query : (ts us : List Token) (q r : Query) → ts ≡ us → IsSentence ts q → IsSentence us r → q ≡ r
-one_query ts us q r e a b = ap (λ o. unwrap_or o r) (sym (read_is ts q a) ∙ ap whole e ∙ read_is us r b)
+one_query ts us q r e a b =
+    let levels = nest a.0 + nest b.0 + 1 in
+    ap (λ o. unwrap_or o r) (sym (read_is levels ts q a (omega arith)) ∙ ap (whole levels) e ∙ read_is levels us r b (omega arith))
 
 -- two spellings of one text
 spelt_same : (text : List ℕ) (ts us : List Token) (q r : Query) → IsSpeltBy text ts q → IsSpeltBy text us r → (ts ≡ us) × (q ≡ r)
@@ -136,23 +139,24 @@ left_over text ts at n r d h = (
 pub all_read : (text : List ℕ) (ts : List Token) (at : ℕ) → AreRead (chars text) ts (drop at (chars text)) → length (chars text) ≤ at → AreRead (chars text) ts []
 all_read text ts at r h = subst (λ rest. AreRead (chars text) ts rest) (drop_all at (chars text) h) r
 
-pub no_sentence : (text : List ℕ) (ts : List Token) → length text ≤ 16384 → AreRead (chars text) ts [] → is_deep ts ≡ false → whole ts ≡ None → Breaks Syntax text
-no_sentence text ts n r d h = (
+pub no_sentence : (text : List ℕ) (ts : List Token) (levels : ℕ) → 64 < levels → length text ≤ 16384 → AreRead (chars text) ts [] → is_deep ts ≡ false → whole levels ts ≡ None → Breaks Syntax text
+no_sentence text ts levels l n r d h = (
   (ts, [], record { short = n; tokens_read = r; shallow = d }),
   λ us q s.
       let e = (same_tokens (chars text) us ts [] [] s.limits.tokens_read r).0 in
-      let impossible : Some q ≡ None = sym (read_is us q s.sentence) ∙ ap whole e ∙ h in
+      let few : nest s.sentence.0 ≤ 64 = shallow_nest s.sentence.0 (ap is_deep (sym s.sentence.1) ∙ s.limits.shallow) in
+      let impossible : Some q ≡ None = sym (read_is levels us q s.sentence (omega arith)) ∙ ap (whole levels) e ∙ h in
       cc,
 )
 
-pub is_spelt : (text : List ℕ) (ts : List Token) (q : Query) → length text ≤ 16384 → AreRead (chars text) ts [] → is_deep ts ≡ false → whole ts ≡ Some q → IsSpeltBy text ts q
-is_spelt text ts q n r d h =
-    record { limits = record { short = n; tokens_read = r; shallow = d }; sentence = sentence_is ts q h }
+pub is_spelt : (text : List ℕ) (ts : List Token) (levels : ℕ) (q : Query) → length text ≤ 16384 → AreRead (chars text) ts [] → is_deep ts ≡ false → whole levels ts ≡ Some q → IsSpeltBy text ts q
+is_spelt text ts levels q n r d h =
+    record { limits = record { short = n; tokens_read = r; shallow = d }; sentence = sentence_is levels ts q h }
 
-pub failed : (text : List ℕ) (ts : List Token) (e : QueryError) → length text ≤ 16384 → AreRead (chars text) ts [] → is_deep ts ≡ false → Fails e (whole ts) → Answers text (Err e)
-failed text ts OutOfMemory n r d h = tt
-failed text ts (Rule TooLong) n r d h = absurd h
-failed text ts (Rule TooDeep) n r d h = absurd h
-failed text ts (Rule Syntax) n r d h = no_sentence text ts n r d h
-failed text ts (Rule TooMany) n r d h = absurd h
-failed text ts (Rule Pattern) n r d h = absurd h
+pub failed : (text : List ℕ) (ts : List Token) (levels : ℕ) (e : QueryError) → 64 < levels → length text ≤ 16384 → AreRead (chars text) ts [] → is_deep ts ≡ false → Fails e (whole levels ts) → Answers text (Err e)
+failed text ts levels OutOfMemory l n r d h = tt
+failed text ts levels (Rule TooLong) l n r d h = absurd h
+failed text ts levels (Rule TooDeep) l n r d h = absurd h
+failed text ts levels (Rule Syntax) l n r d h = no_sentence text ts levels l n r d h
+failed text ts levels (Rule TooMany) l n r d h = absurd h
+failed text ts levels (Rule Pattern) l n r d h = absurd h

@@ -1,5 +1,5 @@
 -- Reading a query from tokens, from the left.
-use Rattle.std.specs.Prelude.{◌≡◌, ℕ, zero, suc, ◌+◌, Bool, ◌&&◌, ◌||◌, List, [], ◌∷◌, ◌==◌, length, drop, Option, Some, None, option_map, option_and_then, Result, Ok, Err, if◌then◌else◌, codes, slice_get}
+use Rattle.std.specs.Prelude.{◌≡◌, ℕ, zero, suc, Bool, ◌&&◌, ◌||◌, List, [], ◌∷◌, ◌==◌, length, drop, Option, Some, None, option_map, option_and_then, Result, Ok, Err, if◌then◌else◌, codes, slice_get}
 use Rattle.std.specs.List.{prefix_len}
 use Rattle.dw_jexl.specs.declared.error.QueryError.{QueryError}
 use Rattle.dw_jexl.specs.declared.error.QueryError.TheVariants as error
@@ -140,6 +140,6 @@ query_at (suc n) ts = disjunction (query_at n) ts
 abbrev pub if_ended : Query × List Token → Option Query
 if_ended p = if length p.1 == 0 then Some p.0 else None
 
--- the query that all of the tokens spell
-unfoldable pub whole : List Token → Option Query
-whole ts = query_at (length ts + 1) ts >>= if_ended
+-- the query that all of the tokens spell, where its groups stand less than that many levels deep
+unfoldable pub whole : ℕ → List Token → Option Query
+whole levels ts = query_at levels ts >>= if_ended

@@ -3,6 +3,7 @@
 
 mod depth;
 mod error;
+mod laws;
 mod lex;
 mod parsing;
 mod pattern;
@@ -13,6 +14,7 @@ mod token;
 mod word;
 
 pub use error::{QueryError, QueryRule};
+pub use laws::{canonical_texts_are_read_again, texts_tell_queries};
 pub use parsing::parse;
 pub use printing::print;
 pub use query::{Op, Query};

@@ -1,6 +1,7 @@
 //! The query of a text.
 
 ghost use Rattle.std.specs.Prelude.{◌≡◌, IfOk, Ok, Err, ◌⊎◌};
+ghost use Rattle.dw_jexl.specs.QueryLaws.{IsReadAgain};
 ghost use Rattle.dw_jexl.specs.Spelling.{Spells, Breaks, Answers};
 
 use crate::depth::is_deep;
@@ -12,6 +13,10 @@ use std::alloc::Global;
 
 /// The most bytes of a text.
 const MAX_BYTES: usize = 16_384;
+
+/// The levels that reading goes down: the whole, and at most 64 groups in one another, which is all that a text that is
+/// not too deep has.
+const LEVELS: usize = 65;
 
 /// The most leaves of a query.
 const MAX_LEAVES: u64 = 256;
@@ -30,7 +35,7 @@ fn read(alloc: Global, text: &str) -> Result<Query, QueryError>
     if at < chars.len() {
         return Err(QueryError::Rule(QueryRule::Syntax));
     }
-    let query = reading::whole(alloc, &tokens)?;
+    let query = reading::whole(alloc, LEVELS, &tokens)?;
     if query.leaves() > MAX_LEAVES {
         return Err(QueryError::Rule(QueryRule::TooMany));
     }
@@ -46,6 +51,8 @@ pub fn parse(alloc: Global, text: &str) -> Result<Query, QueryError>
     ensures spelt { IfOk result (λ q. Spells text.now q) }
     // What the text spells is read, unless memory runs out.
     ensures only { (q : Query) → Spells text.now q → (result ≡ Ok q) ⊎ (result ≡ Err QueryError.OutOfMemory) }
+    // What is read is read again from its canonical text, where that keeps the limits on length and depth.
+    ensures again { IfOk result (λ q. IsReadAgain q) }
     // The rule is the first that the text breaks.
     ensures refused { (r : QueryRule) → result ≡ Err (QueryError.Rule r) → Breaks r text.now }
     // A text that breaks a rule is refused by it, unless memory runs out.

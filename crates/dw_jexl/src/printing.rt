@@ -4,6 +4,7 @@ ghost use Rattle.std.specs.Prelude.{◌≡◌, ◌++◌, ◌||◌, ◌==◌, [],
 ghost use Rattle.dw_jexl.specs.Canonical.{sign_of, needs_escape, escaped, all_escaped, string_of, literal_of, all_literal, wildcard_if, pattern_chars, matching_sign, lower_sign, upper_sign, comparison_text, side_text, pattern_text, bounded_text, child_opening, child_closing, not_opening, not_closing, printed, canonical};
 ghost use Rattle.dw_jexl.specs.Grammar.{folded};
 ghost use Rattle.dw_jexl.specs.Patterns.{is_meta};
+ghost use Rattle.dw_jexl.specs.QueryLaws.{SpellsAgain};
 
 use crate::pattern::is_meta;
 use crate::query::{Op, Query};
@@ -300,7 +301,9 @@ fn put_query(alloc: Global, out: &mut Word, query: &Query) -> Result<(), AllocEr
 
 /// The one text of a query: fields in upper case, signs with one space on each side, strings in `'`.
 pub fn print(alloc: Global, query: &Query) -> Result<String, AllocError>
-    ensures { IfOk result (λ text. chars (string_bytes text) ≡ canonical query.now) }
+    ensures value { IfOk result (λ text. chars (string_bytes text) ≡ canonical query.now) }
+    // A query that some text spells is read again from what is printed, where that keeps the limits on length and depth.
+    ensures again { IfOk result (λ text. SpellsAgain (string_bytes text) query.now) }
 {
     let mut out = Word::new(alloc);
     put_query(alloc, &mut out, query)?;

@@ -359,6 +359,7 @@ fn begins_operand(tokens: &[Token]) -> bool
 /// A bounded, or `(`, a query and `)`.
 #[cycle(reader)]
 fn base(alloc: Global, levels: usize, tokens: &[Token]) -> Result<(Query, usize), QueryError>
+    requires { levels ≤ 64 }
     ensures value { Gives (λ x. (x.0, drop x.1 tokens.now)) result (base (query_at levels) tokens.now) }
     ensures within { IfOk result (λ x. (0 < x.1) × (x.1 ≤ length tokens.now)) }
 {
@@ -378,6 +379,7 @@ fn base(alloc: Global, levels: usize, tokens: &[Token]) -> Result<(Query, usize)
 /// A leaf, or a group or a bounded under negations.
 #[cycle(reader)]
 fn unary(alloc: Global, levels: usize, tokens: &[Token]) -> Result<(Query, usize), QueryError>
+    requires { levels ≤ 64 }
     ensures value { Gives (λ x. (x.0, drop x.1 tokens.now)) result (unary (query_at levels) tokens.now) }
     ensures within { IfOk result (λ x. (0 < x.1) × (x.1 ≤ length tokens.now)) }
 {
@@ -391,6 +393,7 @@ fn unary(alloc: Global, levels: usize, tokens: &[Token]) -> Result<(Query, usize
 
 #[cycle(reader)]
 fn conjunction(alloc: Global, levels: usize, tokens: &[Token]) -> Result<(Query, usize), QueryError>
+    requires { levels ≤ 64 }
     ensures value { Gives (λ x. (x.0, drop x.1 tokens.now)) result (conjunction (query_at levels) tokens.now) }
     ensures within { IfOk result (λ x. (0 < x.1) × (x.1 ≤ length tokens.now)) }
 {
@@ -410,6 +413,7 @@ fn conjunction(alloc: Global, levels: usize, tokens: &[Token]) -> Result<(Query,
 /// A query whose groups stand at most so deep.
 #[cycle(reader)]
 fn disjunction(alloc: Global, levels: usize, tokens: &[Token]) -> Result<(Query, usize), QueryError>
+    requires { levels ≤ 65 }
     ensures value { Gives (λ x. (x.0, drop x.1 tokens.now)) result (query_at levels tokens.now) }
     ensures within { IfOk result (λ x. (0 < x.1) × (x.1 ≤ length tokens.now)) }
 {
@@ -429,12 +433,14 @@ fn disjunction(alloc: Global, levels: usize, tokens: &[Token]) -> Result<(Query,
     }
 }
 
-/// The query that all of the tokens spell.
+/// The query that all of the tokens spell, where its groups stand less than that many levels deep. What stands in a group
+/// is read with one level less, so that is also how deep the calls go.
 #[tactic(auto, unfolding(crate::specs::Reading::whole))]
-pub fn whole(alloc: Global, tokens: &[Token]) -> Result<Query, QueryError>
-    ensures { Gives (λ q. q) result (whole tokens.now) }
+pub fn whole(alloc: Global, levels: usize, tokens: &[Token]) -> Result<Query, QueryError>
+    requires { levels ≤ 65 }
+    ensures { Gives (λ q. q) result (whole levels tokens.now) }
 {
-    let (query, used) = disjunction(alloc, tokens.len() + 1, tokens)?;
+    let (query, used) = disjunction(alloc, levels, tokens)?;
     if used < tokens.len() {
         return Err(SYNTAX);
     }

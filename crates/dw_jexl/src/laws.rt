@@ -1,0 +1,14 @@
+//! What holds of all query texts. The functions do nothing: their contracts are laws.
+
+ghost use Rattle.dw_jexl.specs.QueryLaws.{TextsTellQueries, CanonicalTextsAreReadAgain};
+
+/// A text spells at most one query.
+pub fn texts_tell_queries()
+    ensures { TextsTellQueries }
+{}
+
+/// The canonical text of each query that some text spells is read again as that query, where it keeps the limits on
+/// length and depth.
+pub fn canonical_texts_are_read_again()
+    ensures { CanonicalTextsAreReadAgain }
+{}
