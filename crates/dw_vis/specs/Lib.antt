@@ -1,0 +1,11 @@
+pub mod Names
+pub mod Trees
+pub mod Grammar
+pub mod Mixing
+pub mod Depth
+pub mod Reading
+pub mod Sight
+pub mod Verdict
+pub mod Laws
+pub mod States
+pub mod Test
