@@ -1,0 +1,10 @@
+pub mod Runs
+pub mod Orders
+pub mod Decimals
+pub mod Days
+pub mod Addresses
+pub mod Dates
+pub mod Numbers
+pub mod ReadDates
+pub mod Zeros
+pub mod Wholes

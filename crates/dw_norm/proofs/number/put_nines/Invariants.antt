@@ -1,0 +1,6 @@
+use Rattle.std.proofs.Common.{◌≡◌, ◌++◌, take, string_bytes}
+use Rattle.dw_norm.specs.Numbers.{nines}
+use Rattle.dw_norm.proofs.number.put_nines.Given as goal
+
+abbrev pub invariant-loop-digit : goal.invariant-loop-digit
+invariant-loop-digit l = string_bytes l.out ≡ string_bytes l.initial.out ++ nines (take l.digit-index l.digits)

@@ -1,0 +1,10 @@
+pub mod Digits
+pub mod Unchanged
+pub mod NormalText
+pub mod Numbers
+pub mod Calendar
+pub mod Dates
+pub mod Addresses
+pub mod Reversal
+pub mod Normal
+pub mod Laws
