@@ -7,8 +7,9 @@ use Rattle.datawave.specs.declared.status.Status.TheVariants.{Done, BadWords, Re
 use Rattle.datawave.specs.declared.exchange.Broken.{Broken}
 use Rattle.datawave.specs.declared.exchange.Broken.TheVariants as broken
 use Rattle.datawave.specs.Statuses.{status_of}
-use Rattle.datawave.specs.Lines.{kept, lines, last_line, whole_lines, whole_lines_after, rest_after, max_line}
-use Rattle.datawave.specs.World.{World, nothing}
+use Rattle.datawave.specs.Lines.{kept, lines, last_line, whole_lines, whole_lines_after, rest_after}
+use Rattle.dw_wire.specs.ReadLine.{max_line}
+use Rattle.dw_desk.specs.World.{World, nothing}
 use Rattle.datawave.specs.Session.{Digest, AllAnswered, SomeAnswered, Exchanged, Runs, max_input}
 use Rattle.datawave.specs.Exchange.{LinePut, LineLacks, LinesPut, LinesLack, Progress}
 use Rattle.datawave.proofs.Sessions.{put_none, put_then, put_one, lack_then, lack_more, lack_one, prepend_then, prepend_nothing, some_all, answered_none, known_nothing}

@@ -3,7 +3,7 @@ use Rattle.std.proofs.Common.{◌≡◌, ◌++◌, ◌∷◌, [], ℕ, List, Opt
 use Rattle.std.specs.List.{concat}
 use Rattle.std.proofs.lemmas.List.Folds.{concat-append}
 use Rattle.std.specs.Io.KnownBytes.{append_known, prepend_known}
-use Rattle.datawave.specs.World.{World}
+use Rattle.dw_desk.specs.World.{World}
 use Rattle.datawave.specs.Session.{Digest, Answers, Session, AllAnswered, LastLacks, FrontAnswered, SomeAnswered}
 use Rattle.datawave.specs.Exchange.{LinePut, LineLacks, LinesPut, LinesLack, PartPut}
 

@@ -2,7 +2,7 @@
 use Rattle.std.specs.Prelude.{◌≡◌, ℕ, Option, List, [], ◌++◌, length}
 use Rattle.std.specs.Io.KnownBytes.{append_known, prepend_known}
 use Rattle.datawave.specs.Lines.{kept, whole_lines, rest_after}
-use Rattle.datawave.specs.World.{World, nothing}
+use Rattle.dw_desk.specs.World.{World, nothing}
 use Rattle.datawave.specs.Session.{Digest, Answers, AllAnswered, SomeAnswered}
 
 -- a line was answered, and its text was put

@@ -1,16 +1,5 @@
 pub mod Lines
-pub mod Numbers
 pub mod Words
-pub mod World
-pub mod Take
-pub mod Answer
-pub mod Step
-pub mod ReadLine
-pub mod ReplyText
-pub mod ReplyTokens
-pub mod Batches
-pub mod Desk
-pub mod Standing
 pub mod Session
 pub mod Exchange
 pub mod Texts

@@ -1,4 +1,5 @@
 -- How the bytes of an input fall into lines.
+use Rattle.dw_wire.specs.ReadLine.{max_line}
 use Rattle.std.specs.Prelude.{ℕ, ◌==◌, nat_le, Option, Some, None, List, [], ◌∷◌, ◌++◌, length, if◌then◌else◌}
 
 -- a line feed, which ends a line and is no part of it
@@ -27,10 +28,6 @@ last_line (b ∷ bs) = (b ∷ bs) ∷ []
 -- the lines of an input
 abbrev pub lines : List ℕ → List (List ℕ)
 lines bytes = whole_lines bytes ++ last_line (rest_after [] bytes)
-
--- the most bytes that a line may have
-abbrev pub max_line : ℕ
-max_line = 4194304
 
 -- what is kept of the bytes of a line: all of them, or only that they are too many
 abbrev pub kept : List ℕ → Option (List ℕ)

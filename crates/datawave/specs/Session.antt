@@ -5,11 +5,11 @@ use Rattle.std.specs.Io.KnownBytes.{append_known, prepend_known, IsAtEnd}
 use Rattle.datawave.specs.declared.status.Status.{Status}
 use Rattle.datawave.specs.declared.status.Status.TheVariants.{Done, BadWords, ReadFault, WriteFault, OutOfMemory, TooMuch}
 use Rattle.datawave.specs.Lines.{lines, whole_lines}
-use Rattle.datawave.specs.World.{World, nothing}
-use Rattle.datawave.specs.Step.{step}
-use Rattle.datawave.specs.ReadLine.{read_line}
-use Rattle.datawave.specs.ReplyText.{reply_text}
-use Rattle.datawave.specs.declared.reply.Reply.TheVariants as reply
+use Rattle.dw_desk.specs.World.{World, nothing}
+use Rattle.dw_desk.specs.Step.{step}
+use Rattle.dw_wire.specs.ReadLine.{read_line}
+use Rattle.dw_wire.specs.ReplyText.{reply_text}
+use Rattle.dw_wire.specs.declared.reply.Reply.TheVariants as reply
 
 -- how a uid is made of the canonical bytes of a record
 abbrev pub Digest : Type 0

@@ -2,22 +2,20 @@ ghost use Rattle.std.specs.Prelude.{◌≡◌, ◌++◌, ◌∷◌, ◌≤◌, �
 ghost use Rattle.std.specs.Io.KnownBytes.{append_known};
 ghost use Rattle.dw_outside.specs.Faults.{Rose};
 ghost use Rattle.datawave.specs.Lines.{kept, whole_lines_after, rest_after};
-ghost use Rattle.datawave.specs.ReadLine.{read_line as request_on};
-ghost use Rattle.datawave.specs.ReplyText.{reply_text};
-ghost use Rattle.datawave.specs.Desk.{world_of, IsCounted};
+ghost use Rattle.dw_wire.specs.ReadLine.{read_line as request_on};
+ghost use Rattle.dw_wire.specs.ReplyText.{reply_text};
+ghost use Rattle.dw_desk.specs.Desk.{world_of};
+ghost use Rattle.dw_wire.specs.Requests.{IsCounted, IsRuled};
 ghost use Rattle.datawave.specs.Session.{Answers};
 ghost use Rattle.datawave.specs.Exchange.{LinePut, LineLacks, LinesPut, LinesLack, PartPut};
 ghost use Rattle.datawave.specs.Texts.{text_of};
 
-use crate::desk::Desk;
 use crate::line::Line;
-use crate::read_line::read_line;
-use crate::reply::Reply;
-use crate::request::{Request, Why};
-use crate::write_reply::{memory_line, write_reply};
+use dw_desk::Desk;
 use dw_event::UidMaker;
 use dw_key::{Bytes, OutOfMemory};
 use dw_outside::{Failed, Sink};
+use dw_wire::{Reply, Request, Why, memory_line, read_line, write_reply};
 use std::alloc::Global;
 
 /// Why an exchange broke off.
@@ -60,6 +58,7 @@ impl Text {
 fn request_of(alloc: Global, line: &Line) -> Result<Result<Request, Why>, OutOfMemory>
     ensures request { IfOk result (λ r. (bytes : List ℕ) → line.now ≡ kept bytes → r ≡ request_on bytes) }
     ensures counted { IfOk result (λ r. IsCounted r) }
+    ensures ruled { IfOk result (λ r. IsRuled r) }
 {
     match line.bytes() {
         Some(bytes) => read_line(alloc, bytes),

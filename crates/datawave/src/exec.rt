@@ -2,19 +2,22 @@ ghost use Rattle.std.specs.Prelude.{◌≡◌, ◌≢◌, ◌≤◌, ◌<◌, �
 ghost use Rattle.std.specs.Io.KnownBytes.{prepend_known, IsAtEnd};
 ghost use Rattle.dw_outside.specs.Faults.{Rose};
 ghost use Rattle.dw_outside.specs.Moved.{done_bytes};
-ghost use Rattle.datawave.specs.Desk.{world_of};
+ghost use Rattle.dw_desk.specs.Desk.{world_of};
 ghost use Rattle.datawave.specs.Session.{Runs, max_input};
 ghost use Rattle.datawave.specs.Exchange.{Progress};
 ghost use Rattle.datawave.specs.Statuses.{status_of};
 
-use crate::desk::Desk;
 use crate::exchange::{Broken, exchange_line, exchange_piece};
 use crate::line::Line;
 use crate::status::Status;
+use dw_desk::Desk;
 use dw_event::UidMaker;
 use dw_key::OutOfMemory;
 use dw_outside::{Failed, Sink, Source};
 use std::alloc::Global;
+
+#[cfg(test)]
+mod tests;
 
 /// The most bytes of input that a run takes.
 const MAX_INPUT: u64 = 1_099_511_627_776;

@@ -2,11 +2,9 @@ ghost use Rattle.std.specs.Prelude.{◌≡◌, ◌↔◌, ◌++◌, [], Some, No
 ghost use Rattle.datawave.specs.Lines.{kept};
 
 use dw_key::OutOfMemory;
+use dw_wire::MAX_LINE;
 use std::alloc::Global;
 use std::marker::Model;
-
-/// The most bytes that a line may have.
-pub const MAX_LINE: usize = 4_194_304;
 
 /// What was read of a line so far: its bytes, or only that they are more than a line may have.
 #[derive(Drop)]
@@ -17,7 +15,7 @@ pub struct Line {
 
 impl Model for Line {
     ghost use Rattle.std.specs.Prelude.{List, ℕ, ◌≤◌, Some, None, Option, if◌then◌else◌, length};
-    ghost use Rattle.datawave.specs.Lines.{max_line};
+    ghost use Rattle.dw_wire.specs.ReadLine.{max_line};
 
     ghost Value = { Option (List ℕ) };
 

@@ -7,22 +7,12 @@ ghost use Rattle.dw_outside.specs.Faults.{Rose};
 ghost use Rattle.datawave.specs.Session.{Runs};
 ghost use Rattle.datawave.specs.Words.{is_exec};
 
-mod caller;
-mod callers;
 mod command;
-mod desk;
 mod exchange;
 mod exec;
 mod laws;
 mod line;
-mod listed;
-mod page;
-mod read_line;
-mod reply;
-mod request;
 mod status;
-mod take;
-mod write_reply;
 
 use command::is_exec_command;
 use dw_event::{ShaUid, UidMaker};

@@ -1,5 +1,5 @@
 -- Canonical bytes tell well-formed records apart.
-use Rattle.std.proofs.Common.{◌≡◌, ℕ, zero, suc, ◌<◌, Bool, false, not, nat_eq, length, List, [], ◌∷◌, ◌++◌, refl, ap, sym, ◌∙◌, append_assoc, length-append, arith}
+use Rattle.std.proofs.Common.{◌≡◌, ℕ, zero, suc, ◌<◌, Bool, false, ◌&&◌, not, nat_eq, length, List, [], ◌∷◌, ◌++◌, refl, ap, sym, ◌∙◌, append_assoc, length-append, arith}
 use Rattle.std.specs.Prelude.{IsTrue}
 use Rattle.std.specs.List.{list_all}
 use Rattle.std.specs.Char.{is_ascii_digit}
@@ -7,7 +7,8 @@ use Rattle.std.proofs.lemmas.Bool.{and_parts, both_ways}
 use Rattle.dw_key.specs.TypeName.{is_type_name, is_type_byte}
 use Rattle.dw_event.specs.declared.cells.EventCell.{EventCell}
 use Rattle.dw_event.specs.declared.records.Record.{Record}
-use Rattle.dw_event.specs.Names.{is_field_name, is_field_byte, is_raw_value}
+use Rattle.dw_event.specs.Names.{is_field_name, is_field_byte, is_raw_value, is_visibility, lacks_zero}
+use Rattle.dw_vis.specs.Test.{is_vis}
 use Rattle.dw_event.specs.Days.{names_day}
 use Rattle.dw_event.specs.Records.{ended, cell_canon, cells_canon, is_cell, IsWellFormed, CanonTellsApart}
 
@@ -46,6 +47,9 @@ field_lacks text is = lacks_from_test is_field_byte refl text (and_parts _ (list
 raw_lacks : (text : List ℕ) → IsTrue (is_raw_value text) → LacksZero text
 raw_lacks text is = lacks_from_test (λ b. not (nat_eq b 0)) refl text (and_parts _ (list_all (λ b. not (nat_eq b 0)) text) is).1
 
+vis_lacks : (text : List ℕ) → IsTrue (is_visibility text) → LacksZero text
+vis_lacks text is = lacks_from_test (λ b. not (nat_eq b 0)) refl text (and_parts (is_vis text) (lacks_zero text) is).1
+
 three : (a b c : List ℕ) → (a ++ b) ++ c ≡ a ++ (b ++ c)
 three a b c = append_assoc a b c
 
@@ -58,14 +62,16 @@ cell_some c rest e = let long = simp length-append at (ap length e) in omega ari
 -- two cells and what follows each
 cell_apart : (c d : EventCell) (us vs : List ℕ) → IsTrue (is_cell c) → IsTrue (is_cell d) → cell_canon c ++ us ≡ cell_canon d ++ vs → (c ≡ d) × (us ≡ vs)
 cell_apart c d us vs is also e =
-    let left = and_parts (is_field_name c.field) (is_raw_value c.raw) is in
-    let right = and_parts (is_field_name d.field) (is_raw_value d.raw) also in
-    let whole : ended c.field ++ (ended c.raw ++ (ended [] ++ us)) ≡ ended d.field ++ (ended d.raw ++ (ended [] ++ vs)) =
-    sym (four (ended c.field) (ended c.raw) (ended []) us) ∙ e ∙ four (ended d.field) (ended d.raw) (ended []) vs in
+    let left = and_parts (is_field_name c.field) (is_raw_value c.raw && is_visibility c.vis) is in
+    let right = and_parts (is_field_name d.field) (is_raw_value d.raw && is_visibility d.vis) also in
+    let left_more = and_parts (is_raw_value c.raw) (is_visibility c.vis) left.1 in
+    let right_more = and_parts (is_raw_value d.raw) (is_visibility d.vis) right.1 in
+    let whole : ended c.field ++ (ended c.raw ++ (ended c.vis ++ us)) ≡ ended d.field ++ (ended d.raw ++ (ended d.vis ++ vs)) =
+    sym (four (ended c.field) (ended c.raw) (ended c.vis) us) ∙ e ∙ four (ended d.field) (ended d.raw) (ended d.vis) vs in
     let fields = ended_apart c.field d.field _ _ (field_lacks c.field left.0) (field_lacks d.field right.0) whole in
-    let raws = ended_apart c.raw d.raw _ _ (raw_lacks c.raw left.1) (raw_lacks d.raw right.1) fields.1 in
-    let rests = ended_apart [] [] us vs tt tt raws.1 in
-    ((λ i. record { field = fields.0 i; raw = raws.0 i }), rests.1)
+    let raws = ended_apart c.raw d.raw _ _ (raw_lacks c.raw left_more.0) (raw_lacks d.raw right_more.0) fields.1 in
+    let rests = ended_apart c.vis d.vis us vs (vis_lacks c.vis left_more.1) (vis_lacks d.vis right_more.1) raws.1 in
+    ((λ i. record { field = fields.0 i; raw = raws.0 i; vis = rests.0 i }), rests.1)
 
 cells_apart : (cs ds : List EventCell) → IsTrue (list_all is_cell cs) → IsTrue (list_all is_cell ds) → cells_canon cs ≡ cells_canon ds → cs ≡ ds
 cells_apart [] [] is also e = refl

@@ -1,5 +1,5 @@
 -- The order of cells, and their equality.
-use Rattle.std.proofs.Common.{◌≡◌, ℕ, ◌<◌, ◌≤◌, nat_eq, List, [], length, get_or, ap, rules}
+use Rattle.std.proofs.Common.{◌≡◌, ℕ, ◌<◌, ◌≤◌, nat_eq, List, [], length, get_or, ◌&&◌, ap, rules}
 use Rattle.std.specs.declared.cmp.Ordering.TheVariants.{Less, Equal, Greater}
 use Rattle.std.specs.Ordering.{ordering_index}
 use Rattle.std.specs.List.Sorted.{IsNonDecreasingBy, IsPartitionPoint}
@@ -23,12 +23,16 @@ texts_decide = pointwise_decides (λ x y. (eqb-true x y, eq-eqb x y))
 
 cell_decides : (c d : EventCell) → Decides (cell_eq c d) (c ≡ d)
 cell_decides c d = (
-  λ t. let parts = and_parts (pointwise nat_eq c.field d.field) (pointwise nat_eq c.raw d.raw) t in
+  λ t. let parts = and_parts (pointwise nat_eq c.field d.field) (pointwise nat_eq c.raw d.raw && pointwise nat_eq c.vis d.vis) t in
+      let more = and_parts (pointwise nat_eq c.raw d.raw) (pointwise nat_eq c.vis d.vis) parts.1 in
       let field : c.field ≡ d.field = (texts_decide c.field d.field).0 parts.0 in
-      let raw : c.raw ≡ d.raw = (texts_decide c.raw d.raw).0 parts.1 in
-      λ i. record { field = field i; raw = raw i },
-  λ e. and_from (pointwise nat_eq c.field d.field) (pointwise nat_eq c.raw d.raw)
-      ((texts_decide c.field d.field).1 (ap (λ x. x.field) e)) ((texts_decide c.raw d.raw).1 (ap (λ x. x.raw) e)),
+      let raw : c.raw ≡ d.raw = (texts_decide c.raw d.raw).0 more.0 in
+      let vis : c.vis ≡ d.vis = (texts_decide c.vis d.vis).0 more.1 in
+      λ i. record { field = field i; raw = raw i; vis = vis i },
+  λ e. and_from (pointwise nat_eq c.field d.field) (pointwise nat_eq c.raw d.raw && pointwise nat_eq c.vis d.vis)
+      ((texts_decide c.field d.field).1 (ap (λ x. x.field) e))
+      (and_from (pointwise nat_eq c.raw d.raw) (pointwise nat_eq c.vis d.vis)
+      ((texts_decide c.raw d.raw).1 (ap (λ x. x.raw) e)) ((texts_decide c.vis d.vis).1 (ap (λ x. x.vis) e))),
 )
 
 pub cells_decide : (cs ds : List EventCell) → Decides (cells_eq cs ds) (cs ≡ ds)

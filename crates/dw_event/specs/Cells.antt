@@ -7,9 +7,9 @@ use Rattle.std.specs.BTreeSet.{insert_key}
 use Rattle.std.specs.declared.cmp.Ordering.{Ordering}
 use Rattle.dw_event.specs.declared.cells.EventCell.{EventCell}
 
--- by the bytes of the field, and then by those of the raw value
+-- by the bytes of the field, then by those of the raw value, and then by those of the visibility's text
 abbrev pub cell_cmp : EventCell → EventCell → Ordering
-cell_cmp = then_cmp (on (λ c. c.field) (slice_cmp nat_cmp)) (on (λ c. c.raw) (slice_cmp nat_cmp))
+cell_cmp = then_cmp (on (λ c. c.field) (slice_cmp nat_cmp)) (then_cmp (on (λ c. c.raw) (slice_cmp nat_cmp)) (on (λ c. c.vis) (slice_cmp nat_cmp)))
 
 -- each cell is below those after it
 abbrev pub IsAscending : List EventCell → Type 0
@@ -19,9 +19,9 @@ IsAscending cells = IsStrictlySortedBy cell_cmp cells
 abbrev pub with_cell : List EventCell → EventCell → List EventCell
 with_cell cells cell = insert_key cell_cmp cells cell
 
--- the fields are equal, and so are the raw values
+-- the fields are equal, and so are the raw values and the visibilities
 abbrev pub cell_eq : EventCell → EventCell → Bool
-cell_eq = eq_of_both (on (λ c. c.field) (pointwise nat_eq)) (on (λ c. c.raw) (pointwise nat_eq))
+cell_eq = eq_of_both (on (λ c. c.field) (pointwise nat_eq)) (eq_of_both (on (λ c. c.raw) (pointwise nat_eq)) (on (λ c. c.vis) (pointwise nat_eq)))
 
 -- two sets have the same cells, one for one
 abbrev pub cells_eq : List EventCell → List EventCell → Bool

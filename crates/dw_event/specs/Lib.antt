@@ -1,6 +1,8 @@
 pub mod Names
 pub mod Days
 pub mod Cells
+pub mod Views
+pub mod Texts
 pub mod Records
 pub mod Numbers
 pub mod Marks

@@ -4,16 +4,16 @@ use Rattle.std.specs.List.{list_all}
 use Rattle.dw_key.specs.TypeName.{is_type_name}
 use Rattle.dw_event.specs.declared.cells.EventCell.{EventCell}
 use Rattle.dw_event.specs.declared.records.Record.{Record}
-use Rattle.dw_event.specs.Names.{is_field_name, is_raw_value}
+use Rattle.dw_event.specs.Names.{is_field_name, is_raw_value, is_visibility}
 use Rattle.dw_event.specs.Days.{names_day}
 
 -- a text and the byte 0 that ends it
 abbrev pub ended : List ℕ → List ℕ
 ended text = text ++ 0 ∷ []
 
--- the field, the raw value and an empty visibility, each ended
+-- the field, the raw value and the text of the visibility, each ended
 abbrev pub cell_canon : EventCell → List ℕ
-cell_canon cell = ended cell.field ++ ended cell.raw ++ ended []
+cell_canon cell = ended cell.field ++ ended cell.raw ++ ended cell.vis
 
 -- the bytes of cells, one after another
 abbrev pub cells_canon : List EventCell → List ℕ
@@ -24,9 +24,9 @@ cells_canon (c ∷ cs) = cell_canon c ++ cells_canon cs
 abbrev pub canon : Record → List ℕ
 canon r = ended r.dtype ++ ended r.date ++ cells_canon r.cells
 
--- a field and a raw value by their rules
+-- a field, a raw value and a visibility by their rules
 abbrev pub is_cell : EventCell → Bool
-is_cell cell = is_field_name cell.field && is_raw_value cell.raw
+is_cell cell = is_field_name cell.field && (is_raw_value cell.raw && is_visibility cell.vis)
 
 -- a type by its rule, a date that names a day, 1 to 4,096 cells by their rules, and at most 65,536 canonical bytes
 abbrev pub is_well_formed : Record → Bool

@@ -8,7 +8,7 @@ use dw_key::Bytes;
 use std::alloc::Global;
 
 /// The bytes that tell records apart: the type, a byte 0, the date, a byte 0, and for each cell the
-/// field, a byte 0, the raw value, a byte 0, an empty visibility and a byte 0.
+/// field, a byte 0, the raw value, a byte 0, the text of the visibility and a byte 0.
 pub fn canonical(alloc: Global, rec: &Record) -> Result<Bytes, OutOfMemory>
     ensures { IfOk result (λ bytes. bytes ≡ canon rec.now) }
 {
@@ -37,7 +37,7 @@ fn put_cell(out: &mut Vec<u8>, cell: &EventCell) -> Result<(), OutOfMemory>
 {
     put_ended(out, cell.field.as_str().as_bytes())?;
     put_ended(out, cell.raw.as_str().as_bytes())?;
-    put_ended(out, b"")?;
+    put_ended(out, cell.vis.text())?;
     Ok(())
 }
 

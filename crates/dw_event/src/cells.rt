@@ -5,14 +5,17 @@ ghost use Rattle.std.proofs.Common.{rules};
 
 use crate::OutOfMemory;
 use dw_key::Text;
+use dw_vis::Vis;
 use std::alloc::Global;
 use std::marker::Model;
 
-/// A field of an event and one raw value of it, ordered by the bytes of the field and then of the value.
+/// A field of an event, one raw value of it and who sees that, ordered by the bytes of the field, then of
+/// the value and then of the visibility's text.
 #[derive(Debug, PartialEq, Eq, PartialOrd, Ord, Drop)]
 pub struct EventCell {
     pub field: Text,
     pub raw: Text,
+    pub vis: Vis,
 }
 
 impl EventCell {
@@ -22,7 +25,8 @@ impl EventCell {
     {
         let field = self.field.copy()?;
         let raw = self.raw.copy()?;
-        Ok(EventCell { field, raw })
+        let vis = self.vis.copy()?;
+        Ok(EventCell { field, raw, vis })
     }
 }
 

@@ -1,8 +1,10 @@
 use crate::places::number;
 use crate::{
-    Cells, ConstUid, EventCell, MarkUid, Place, Record, ShaUid, UidMaker, canonical, place,
+    Cells, ConstUid, Event, EventCell, MarkUid, Pair, Place, Record, ShaUid, UidMaker, View,
+    canonical, place, view,
 };
 use dw_key::{DType, Text, Uid};
+use dw_vis::{Auths, Vis};
 use std::alloc::Global;
 use std::test::Fail;
 
@@ -11,7 +13,8 @@ fn record_of(alloc: Global, cells: &[(&str, &str)]) -> Result<Record, Fail> {
     for (field, raw) in cells {
         let field = Text::of(alloc, field)?;
         let raw = Text::of(alloc, raw)?;
-        all.put(EventCell { field, raw })?;
+        let vis = Vis::everyone(alloc);
+        all.put(EventCell { field, raw, vis })?;
     }
     Ok(Record {
         dtype: DType::of(b"lab").ok_or("no type")?,
@@ -138,5 +141,68 @@ fn a_constant_uid_gives_records_one_place(rt: HostRuntime) -> Result<(), Fail> {
     assert!(rt; one == other);
     assert_eq!(rt; one.shard.as_str(), "20240101_0");
     assert_eq!(rt; one.key.uid, [0; 32]);
+    Ok(())
+}
+
+/// An event of three cells of one value and another of one field, which unlike readers see.
+fn event_of(alloc: Global) -> Result<Event, Fail> {
+    let mut cells = Cells::new(alloc);
+    for (raw, vis) in [("2", "S&T"), ("1", "S"), ("1", ""), ("1", "T")] {
+        let field = Text::of(alloc, "A")?;
+        let raw = Text::of(alloc, raw)?;
+        let vis = Vis::parse(alloc, vis.as_bytes()).or(Err("no visibility"))?;
+        cells.put(EventCell { field, raw, vis })?;
+    }
+    let place = place_by_mark(alloc, "0-1")?;
+    Ok(Event {
+        shard: place.shard,
+        key: place.key,
+        cells,
+        batch: 1,
+    })
+}
+
+fn shows(view: &View, raws: &[&str]) -> bool {
+    let pairs = view.as_slice();
+    pairs.len() == raws.len()
+        && pairs
+            .iter()
+            .zip(raws)
+            .all(|(pair, raw)| is_shown(pair, raw))
+}
+
+fn is_shown(pair: &Pair, raw: &str) -> bool {
+    pair.field.as_str() == "A" && pair.raw.as_str() == raw
+}
+
+#[test]
+fn readers_see_what_they_may(rt: HostRuntime) -> Result<(), Fail> {
+    let alloc = rt.alloc();
+    let event = event_of(alloc)?;
+    assert_eq!(rt; event.cells.as_slice().len(), 4);
+    let mut auths = Auths::new(alloc);
+    let seen = view(alloc, &event, &auths)?;
+    assert!(rt; shows(&seen, &["1"]));
+    auths.add("S")?;
+    let seen = view(alloc, &event, &auths)?;
+    assert!(rt; shows(&seen, &["1"]));
+    auths.add("T")?;
+    let seen = view(alloc, &event, &auths)?;
+    assert!(rt; shows(&seen, &["1", "2"]));
+    assert!(rt; shows(&seen.copy()?, &["1", "2"]));
+    Ok(())
+}
+
+#[test]
+fn a_visibility_stands_in_the_canonical_bytes(rt: HostRuntime) -> Result<(), Fail> {
+    let alloc = rt.alloc();
+    let rec = Record {
+        dtype: DType::of(b"lab").ok_or("no type")?,
+        date: Text::of(alloc, "20240101")?,
+        cells: event_of(alloc)?.cells,
+    };
+    let bytes = canonical(alloc, &rec)?;
+    let wanted = b"lab\x0020240101\0A\x001\0\0A\x001\0S\0A\x001\0T\0A\x002\0S&T\0";
+    assert_eq!(rt; bytes.as_slice(), wanted.as_slice());
     Ok(())
 }

@@ -1,7 +1,7 @@
-use Rattle.datawave.specs.ReplyText.{reply_text}
-use Rattle.datawave.specs.Desk.{world_of}
-use Rattle.datawave.proofs.Counting.{answers_from}
-use Rattle.datawave.proofs.DeskLemmas.{if_ok_of_err, on_err_always}
+use Rattle.dw_wire.specs.ReplyText.{reply_text}
+use Rattle.dw_desk.specs.Desk.{world_of}
+use Rattle.datawave.proofs.Requests.{answers_from}
+use Rattle.datawave.proofs.Results.{if_ok_of_err, on_err_always}
 use Rattle.datawave.proofs.exchange.answer_line.Goals as goal
 
 pub returns-in_err-bytes-in_default : goal.returns-in_err-bytes-in_default

@@ -1,5 +1,6 @@
-use Rattle.std.proofs.Common.{[]}
-use Rattle.datawave.specs.Desk.{world_of}
+use Rattle.std.proofs.Common.{[], ◌∙◌, sym, subst, List, ℕ}
+use Rattle.dw_desk.specs.Desk.{world_of}
+use Rattle.datawave.specs.Session.{Answers}
 use Rattle.datawave.proofs.Sessions.{known_nothing}
 use Rattle.datawave.proofs.exchange.exchange_line.Goals as goal
 
@@ -12,4 +13,16 @@ returns-in-Err-clause-lacks g c bytes e =
       next = world_of c.answer_line.new.desk;
       answers = answered.1;
       output = known_nothing (g.O.Sink.taken c.args.output.now);
+    }
+
+pub returns-clause-lacks : goal.returns-clause-lacks
+returns-clause-lacks g c bytes e =
+    let put = c.in-Err-put_all.ensures.part in
+    let P : List ℕ → Type 0 = λ text. Answers g.U.UidMaker.digest (world_of c.args.desk.now) bytes text (world_of c.answer_line.new.desk) in
+    record {
+      part = put.part;
+      missing = put.missing;
+      next = world_of c.answer_line.new.desk;
+      answers = subst P (sym c.as_slice.ensures ∙ put.whole) (c.in-Ok.ensures.text bytes e);
+      output = put.output;
     }

@@ -1,7 +1,7 @@
 use Rattle.std.proofs.Common.{◌++◌, le_refl, le_trans}
-use Rattle.datawave.specs.Desk.{world_of}
-use Rattle.datawave.proofs.Pieces.{Walk, walk_start, walk_line, walk_broken}
-use Rattle.datawave.proofs.DeskLemmas.{on_err_always}
+use Rattle.dw_desk.specs.Desk.{world_of}
+use Rattle.datawave.proofs.Pieces.{Walk, walk_start, walk_line, walk_broken, walk_stopped}
+use Rattle.datawave.proofs.Results.{on_err_always}
 use Rattle.datawave.proofs.exchange.exchange_piece.Goals as goal
 
 pub loop-text-init : goal.loop-text-init
@@ -29,3 +29,15 @@ loop-text-preserved g c = record {
       front c.args.piece.now c.loop-text.rest.now c.in-Some.text.now c.in-Some.more.now c.loop-text.line x (c.in-Some.ensures.found x.here) (c.in-Some.ensures.left x.here)
       (c.in_ok-exchange_line.ensures.put (x.here ++ c.in-Some.text.now) (c.in_ok-add.ensures.ok x.here x.keeps)) c.clear.new.self c.clear.ensures;
 }
+
+pub returns-in_err-add-clause-lacks : goal.returns-in_err-add-clause-lacks
+returns-in_err-add-clause-lacks g c =
+    on_err_always c.from_residual.result (λ front e.
+    walk_stopped g.U.UidMaker.digest (world_of c.args.desk.now) (world_of c.loop-text.desk) (g.O.Sink.taken c.args.output.now) (g.O.Sink.taken c.loop-text.output)
+    front c.args.piece.now c.loop-text.rest.now c.loop-text.line (c.loop-text.invariant.walk front e))
+
+pub returns-in_err-add-2-clause-lacks : goal.returns-in_err-add-2-clause-lacks
+returns-in_err-add-2-clause-lacks g c =
+    on_err_always c.from_residual-in_err-add-2.result (λ front e.
+    walk_stopped g.U.UidMaker.digest (world_of c.args.desk.now) (world_of c.loop-text.desk) (g.O.Sink.taken c.args.output.now) (g.O.Sink.taken c.loop-text.output)
+    front c.args.piece.now c.loop-text.rest.now c.loop-text.line (c.loop-text.invariant.walk front e))

@@ -1,6 +1,6 @@
 use Rattle.std.proofs.Common.{◌≡◌, ◌≤◌, ℕ, List, length}
 use Rattle.datawave.specs.Lines.{kept}
-use Rattle.datawave.specs.Desk.{world_of}
+use Rattle.dw_desk.specs.Desk.{world_of}
 use Rattle.datawave.proofs.Pieces.{Walk}
 use Rattle.datawave.proofs.exchange.exchange_piece.Given as goal
 

@@ -1,5 +1,5 @@
 use Rattle.std.proofs.Common.{◌≤◌, ◌+◌, ◌-◌, ℕ, List, Option}
-use Rattle.datawave.specs.Desk.{world_of}
+use Rattle.dw_desk.specs.Desk.{world_of}
 use Rattle.datawave.specs.Session.{max_input}
 use Rattle.datawave.specs.Exchange.{Progress}
 use Rattle.datawave.proofs.exec.exchange_all.Given as goal

@@ -1,5 +1,5 @@
 use Rattle.datawave.proofs.Running.{ends_at_start, progress_start}
-use Rattle.datawave.specs.Desk.{world_of}
+use Rattle.dw_desk.specs.Desk.{world_of}
 use Rattle.datawave.proofs.exec.exec.Goals as goal
 
 pub returns-in_default-clause-runs : goal.returns-in_default-clause-runs

@@ -2,7 +2,7 @@ use Rattle.std.proofs.Common.{◌≡◌, true, sym, subst, []}
 use Rattle.datawave.specs.declared.status.Status.{Status}
 use Rattle.datawave.specs.Lines.{rest_after}
 use Rattle.datawave.specs.Session.{Runs}
-use Rattle.datawave.specs.Desk.{world_of}
+use Rattle.dw_desk.specs.Desk.{world_of}
 use Rattle.datawave.proofs.Running.{ends_done, ends_last, ends_last_broken}
 use Rattle.datawave.proofs.exec.finish.Goals as goal
 

@@ -3,8 +3,8 @@ use Rattle.std.specs.Io.KnownBytes.{prepend_known}
 use Rattle.datawave.specs.declared.status.Status.{Status}
 use Rattle.datawave.specs.Lines.{rest_after}
 use Rattle.datawave.specs.Session.{Runs}
-use Rattle.datawave.specs.Desk.{world_of}
-use Rattle.datawave.proofs.Running.{progress_piece, ends_too_much, ends_piece_broken, whole_piece}
+use Rattle.dw_desk.specs.Desk.{world_of}
+use Rattle.datawave.proofs.Running.{progress_piece, ends_read_fault, ends_too_much, ends_piece_broken, whole_piece}
 use Rattle.datawave.proofs.exec.turn.Goals as goal
 
 pub returns-then-talk-gt-MAX_INPUT-clause-ends : goal.returns-then-talk-gt-MAX_INPUT-clause-ends
@@ -36,3 +36,9 @@ returns-in-Err-exchange_piece-clause-ends g c before out p =
     (subst (λ (xs : List ℕ). g.S.Source.left c.args.input.now ≡ prepend_known xs (g.S.Source.left c.take_at_most.new.input)) (sym c.front_of-piece.ensures) c.in-Ok.ensures.bytes)
     (ap length c.front_of-piece.ensures ∙ whole_piece n c.take_at_most.new.buffer (omega (arith, c.in-Ok.ensures.most))) (omega arith)
     (c.in-Err-exchange_piece.ensures.lacks (rest_after [] p.taken) p.partial))
+
+pub returns-in-Err-clause-ends : goal.returns-in-Err-clause-ends
+returns-in-Err-clause-ends g c before out p =
+    let talk = c.args.talk.now in
+    ends_read_fault g.U.UidMaker.digest before (g.S.Source.left c.args.input.now) (g.S.Source.left c.take_at_most.new.input) out (g.O.Sink.taken c.args.output.now) (world_of talk.desk) talk.line talk.total p
+    c.in-Err.ensures.bytes c.requires.total

@@ -1,7 +1,0 @@
-use Rattle.serde_json.proofs.OnLiterals.{serde_json_on_literals}
-use Rattle.datawave.specs.ReplyText.{reply_text}
-use Rattle.datawave.proofs.write_reply.memory_line.Goals as goal
-
-pub returns : goal.returns
-unfolding serde_json_on_literals reply_text
-returns c = c.as_slice.ensures

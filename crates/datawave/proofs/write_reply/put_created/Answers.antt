@@ -1,5 +1,0 @@
-use Rattle.datawave.proofs.WritingLists.{then, wrote}
-use Rattle.datawave.proofs.write_reply.put_created.Goals as goal
-
-pub returns : goal.returns
-returns c = then (wrote c.in_ok-begin_object.ensures) (then c.in_ok-put_number.ensures (then c.in_ok-put_text.ensures (wrote c.in_ok-end_object.ensures)))

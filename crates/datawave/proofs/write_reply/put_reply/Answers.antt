@@ -1,7 +1,0 @@
-use Rattle.datawave.proofs.write_reply.put_reply.Goals as goal
-
-pub returns-in-NotOwned : goal.returns-in-NotOwned
-returns-in-NotOwned c = rw c.in-NotOwned.is c.put_error.ensures
-
-pub returns-in-OutOfMemory : goal.returns-in-OutOfMemory
-returns-in-OutOfMemory c = rw c.in-OutOfMemory.is c.put_error-in-OutOfMemory.ensures

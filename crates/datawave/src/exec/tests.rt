@@ -1,0 +1,49 @@
+//! The end of a run that is too long to be shown whole.
+use crate::exchange::Broken;
+use crate::exec::{MAX_INPUT, Talk, end_of, exchange_all};
+use crate::line::Line;
+use crate::status::Status;
+use dw_desk::Desk;
+use dw_event::MarkUid;
+use dw_key::{Bytes, OutOfMemory};
+use dw_outside::{MemSink, MemSource};
+use std::alloc::Global;
+use std::test::Fail;
+
+/// How a run ends that has taken all but so many bytes of what it may take, where these are left.
+fn ends_after(alloc: Global, left: &str) -> Result<(Status, Bytes), OutOfMemory> {
+    let mut source = MemSource::new(Bytes::of(alloc, left.as_bytes())?, 16, Vec::new(alloc));
+    let mut sink = MemSink::new(alloc, 100, Vec::new(alloc))?;
+    let mut talk = Talk {
+        desk: Desk::new(alloc),
+        line: Line::new(alloc),
+        total: MAX_INPUT - 4,
+    };
+    let mut buffer = [0u8; 8];
+    let status = exchange_all(
+        alloc,
+        &MarkUid,
+        &mut talk,
+        buffer.as_mut_slice(),
+        &mut source,
+        &mut sink,
+    );
+    Ok((status, Bytes::of(alloc, sink.bytes())?))
+}
+
+#[test]
+fn a_byte_too_many_ends_the_run(rt: HostRuntime) -> Result<(), Fail> {
+    let unbuilt = "{\"error\":\"malformed\",\"why\":\"unbuilt\"}\n";
+    let (status, written) = ends_after(rt.alloc(), "[]\n[")?;
+    assert!(rt; status == Status::Done);
+    assert!(rt; written.as_slice().len() == 2 * unbuilt.len());
+    let (status, written) = ends_after(rt.alloc(), "[]\n[]")?;
+    assert!(rt; status == Status::TooMuch);
+    assert!(rt; written.as_slice() == unbuilt.as_bytes());
+    Ok(())
+}
+
+#[test]
+fn want_of_memory_ends_the_run(rt: HostRuntime) {
+    assert!(rt; end_of(Broken::OutOfMemory) == Status::OutOfMemory);
+}

@@ -1,0 +1,11 @@
+pub mod Numbers
+pub mod World
+pub mod Accounts
+pub mod Bound
+pub mod Take
+pub mod Answer
+pub mod Step
+pub mod Batches
+pub mod Standing
+pub mod Desk
+pub mod Laws

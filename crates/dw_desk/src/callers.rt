@@ -1,0 +1,77 @@
+ghost use Rattle.std.specs.Prelude.{◌≡◌, IfOk, OnOk, OnErr, is_some};
+ghost use Rattle.std.specs.Cmp.Lexicographic.{slice_cmp};
+ghost use Rattle.std.specs.Ordering.{nat_cmp};
+ghost use Rattle.std.specs.BTreeMap.{ContainsKey};
+ghost use Rattle.dw_desk.specs.Accounts.{granted, closed};
+ghost use Rattle.dw_desk.specs.Desk.{account_of, Changes, Gives, SameAccounts};
+
+use crate::OutOfMemory;
+use crate::caller::Caller;
+use crate::open_query::OpenQuery;
+use dw_key::Text;
+use dw_vis::Auths;
+use std::alloc::Global;
+use std::collections::BTreeMap;
+
+/// Sees that the caller has an entry, which by itself changes nothing of what is kept.
+fn enter(
+    alloc: Global,
+    callers: &mut BTreeMap<Text, Caller>,
+    name: &Text,
+) -> Result<(), OutOfMemory>
+    ensures same { SameAccounts callers.old callers.new }
+    ensures entered { OnOk result (ContainsKey (slice_cmp nat_cmp) callers.new name.now) }
+{
+    if !callers.contains_key(name) {
+        callers.insert(name.copy()?, Caller::new(alloc))?;
+    }
+    Ok(())
+}
+
+/// Replaces the names that the caller is granted.
+pub fn grant(
+    alloc: Global,
+    callers: &mut BTreeMap<Text, Caller>,
+    name: &Text,
+    names: Auths,
+) -> Result<(), OutOfMemory>
+    ensures grants { OnOk result (Changes callers.old callers.new name.now (granted names)) }
+    ensures err { OnErr result (SameAccounts callers.old callers.new) }
+{
+    enter(alloc, callers, name)?;
+    match callers.get_mut(name) {
+        Some(caller) => {
+            caller.grant(names);
+            Ok(())
+        }
+        None => unreachable!(),
+    }
+}
+
+/// Opens a query under the caller's next number, or gives None where no number is left.
+pub fn give(
+    alloc: Global,
+    callers: &mut BTreeMap<Text, Caller>,
+    name: &Text,
+    query: OpenQuery,
+) -> Result<Option<u64>, OutOfMemory>
+    ensures gives { IfOk result (Gives callers.old callers.new name.now query) }
+    ensures err { OnErr result (SameAccounts callers.old callers.new) }
+{
+    enter(alloc, callers, name)?;
+    match callers.get_mut(name) {
+        Some(caller) => caller.give(query),
+        None => unreachable!(),
+    }
+}
+
+/// Drops the caller's query of a number, and says whether there was one.
+pub fn close(callers: &mut BTreeMap<Text, Caller>, name: &Text, number: u64) -> bool
+    ensures found { result ≡ is_some ((account_of callers.old name.now).queries number) }
+    ensures closed { Changes callers.old callers.new name.now (closed number) }
+{
+    match callers.get_mut(name) {
+        Some(caller) => caller.close(number),
+        None => false,
+    }
+}

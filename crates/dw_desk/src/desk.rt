@@ -1,0 +1,274 @@
+ghost use Rattle.std.specs.Prelude.{◌≡◌, ◌+◌, ◌-◌, ◌^◌, ◌<◌, ◌≤◌, ◌==◌, ◌||◌, true, [], IsTrue, length, Some, None, Ok, IfOk, MatchOption};
+ghost use Rattle.std.specs.Option.{option_copied};
+ghost use Rattle.dw_desk.specs.Batches.{are_before};
+
+use crate::OutOfMemory;
+use crate::bind::bind;
+use crate::caller::Caller;
+use crate::callers::{close, give, grant};
+use crate::open_query::{BoundQuery, OpenQuery};
+use crate::page::page_of;
+use crate::take::{Tally, take_batch};
+use dw_dict::{Dict, FieldRule};
+use dw_event::{Cells, Days, Place, Report, UidMaker};
+use dw_key::Text;
+use dw_vis::Auths;
+use dw_wire::{Query, Records, Reply, Request, Why};
+use std::alloc::Global;
+use std::collections::BTreeMap;
+
+/// What is held at a place: the cells of an event and the number of the batch that brought them.
+#[derive(Debug, Drop)]
+pub struct Held {
+    pub cells: Cells,
+    pub batch: u64,
+}
+
+/// The state of the machine: the events, the number of the last batch, the rules of fields, and what is
+/// kept of each caller.
+#[derive(Debug, Drop)]
+pub struct Desk {
+    events: BTreeMap<Place, Held>,
+    last: u64,
+    dict: Dict,
+    callers: BTreeMap<Text, Caller>,
+    ghost within: { last ≤ 2 ^ 63 - 1 },
+    ghost batches: { IsTrue (are_before (last + 1) events.entries) },
+}
+
+impl Desk {
+    ghost use Rattle.dw_wire.specs.Requests.{IsCounted, IsRuled};
+    ghost use Rattle.dw_desk.specs.World.{nothing};
+    ghost use Rattle.dw_desk.specs.Step.{step, allowed, asked_for, created, defined, dropped, paged, query_of};
+    ghost use Rattle.dw_desk.specs.Desk.{world_of, account_of, is_owned, IsOutcome, Meets, Replies};
+    ghost use Rattle.dw_desk.specs.Bound.{bound};
+    ghost use Rattle.dw_dict.specs.Rules.{IsRule, widens};
+    ghost use Rattle.dw_dict.specs.Dictionary.{rule_of};
+
+    pub fn new(alloc: Global) -> Desk
+        ensures { world_of result ≡ nothing }
+    {
+        Desk {
+            events: BTreeMap::new(alloc),
+            last: 0,
+            dict: Dict::new(alloc),
+            callers: BTreeMap::new(alloc),
+        }
+    }
+
+    /// Answers one request. Want of memory is a reply, which changes nothing, and which never comes where
+    /// the request is malformed, a query is not the caller's, or a query is closed.
+    pub fn answer<U: UidMaker>(
+        &mut self,
+        alloc: Global,
+        uids: &U,
+        request: &Result<Request, Why>,
+    ) -> Reply
+        requires counted { IsCounted request.now }
+        requires ruled { IsRuled request.now }
+        ensures { Replies U.digest (world_of self.old) request.now result (world_of self.new) }
+    {
+        match request {
+            Err(why) => Reply::Malformed { why: *why },
+            Ok(request) => self.carry_out(alloc, uids, request),
+        }
+    }
+
+    fn carry_out<U: UidMaker>(&mut self, alloc: Global, uids: &U, request: &Request) -> Reply
+        requires counted { IsCounted (Ok request.now) }
+        requires ruled { IsRuled (Ok request.now) }
+        ensures { Replies U.digest (world_of self.old) (Ok request.now) result (world_of self.new) }
+    {
+        match request {
+            Request::Define { field, rule } => self.define(field, *rule),
+            Request::Grant { caller, auths } => self.grant(alloc, caller, auths),
+            Request::Ingest { records } => self.ingest(alloc, uids, records),
+            Request::Create {
+                caller,
+                query,
+                days,
+                size,
+                auths,
+            } => self.create(alloc, caller, query, days, *size, auths.as_ref()),
+            Request::Page {
+                caller,
+                number,
+                page,
+            } => self.page(alloc, caller, *number, *page),
+            Request::Close { caller, number } => self.close(caller, *number),
+        }
+    }
+
+    /// Whether a field may have this rule now.
+    fn may_define(&self, field: &Text, rule: &FieldRule) -> bool
+        ensures { result ≡ ((self.now.last == 0) || widens rule.now (rule_of self.now.dict field.now)) }
+    {
+        self.last == 0 || rule.widens(&self.dict.look(field.as_str()))
+    }
+
+    fn define(&mut self, field: &Text, rule: FieldRule) -> Reply
+        requires { IsRule rule }
+        ensures { Meets true (defined (world_of self.old) field.now rule) (world_of self.old) result (world_of self.new) }
+    {
+        if !self.may_define(field, &rule) {
+            return Reply::NotEmpty;
+        }
+        match self.dict.define(field.as_str(), rule) {
+            Ok(()) => Reply::Defined,
+            Err(_) => Reply::OutOfMemory,
+        }
+    }
+
+    fn grant(&mut self, alloc: Global, caller: &Text, auths: &Auths) -> Reply
+        ensures { Meets true (step (λ _. []) (world_of self.old) (Ok (Request.Grant caller.now auths.now))) (world_of self.old) result (world_of self.new) }
+    {
+        let Ok(names) = auths.copy() else {
+            return Reply::OutOfMemory;
+        };
+        match grant(alloc, &mut self.callers, caller, names) {
+            Ok(()) => Reply::Granted,
+            Err(_) => Reply::OutOfMemory,
+        }
+    }
+
+    fn ingest<U: UidMaker>(&mut self, alloc: Global, uids: &U, records: &Records) -> Reply
+        requires { length records.now < 2 ^ 32 }
+        ensures { Replies U.digest (world_of self.old) (Ok (Request.Ingest records.now)) result (world_of self.new) }
+    {
+        let last = self.last;
+        match take_batch(alloc, &mut self.events, uids, last, records.as_slice()) {
+            Ok(Some(tally)) => {
+                if tally.added > 0 {
+                    self.last = last + 1;
+                }
+                Reply::Ingested {
+                    report: report_of(tally, self.last),
+                }
+            }
+            Ok(None) => Reply::Spent,
+            Err(_) => Reply::OutOfMemory,
+        }
+    }
+
+    /// The names that a query of the caller is for.
+    fn names_for(
+        &self,
+        alloc: Global,
+        caller: &Text,
+        asked: Option<&Auths>,
+    ) -> Result<Auths, OutOfMemory>
+        ensures { IfOk result (λ names. names ≡ allowed (account_of self.now.callers caller.now).granted (option_copied asked.entry)) }
+    {
+        let Some(caller) = self.callers.get(caller) else {
+            return Ok(Auths::new(alloc));
+        };
+        match asked {
+            None => caller.granted().copy(),
+            Some(asked) => caller.granted().meet(alloc, asked),
+        }
+    }
+
+    /// The query of what is held now.
+    fn query_now(
+        &self,
+        alloc: Global,
+        caller: &Text,
+        query: BoundQuery,
+        days: &Days,
+        size: u32,
+        asked: Option<&Auths>,
+    ) -> Result<OpenQuery, OutOfMemory>
+        ensures { IfOk result (λ q. q ≡ query_of (world_of self.now) caller.now query days.now size (option_copied asked.entry)) }
+    {
+        Ok(OpenQuery {
+            query,
+            days: days.copy()?,
+            size,
+            auths: self.names_for(alloc, caller, asked)?,
+            snapshot: self.last,
+        })
+    }
+
+    fn open(
+        &mut self,
+        alloc: Global,
+        caller: &Text,
+        query: BoundQuery,
+        days: &Days,
+        size: u32,
+        asked: Option<&Auths>,
+    ) -> Reply
+        ensures { Meets true (created (world_of self.old) caller.now (query_of (world_of self.old) caller.now query days.now size (option_copied asked.entry))) (world_of self.old) result (world_of self.new) }
+    {
+        let Ok(query) = self.query_now(alloc, caller, query, days, size, asked) else {
+            return Reply::OutOfMemory;
+        };
+        match give(alloc, &mut self.callers, caller, query) {
+            Ok(Some(number)) => Reply::Created { number },
+            Ok(None) => Reply::Spent,
+            Err(_) => Reply::OutOfMemory,
+        }
+    }
+
+    fn create(
+        &mut self,
+        alloc: Global,
+        caller: &Text,
+        query: &Query,
+        days: &Days,
+        size: u32,
+        asked: Option<&Auths>,
+    ) -> Reply
+        ensures { Meets true (asked_for (world_of self.old) caller.now days.now size (option_copied asked.entry) (bound self.old.dict query.now)) (world_of self.old) result (world_of self.new) }
+    {
+        let bound = match bind(alloc, &self.dict, query) {
+            Ok(Some(bound)) => bound,
+            Ok(None) => return Reply::Malformed { why: Why::Literal },
+            Err(_) => return Reply::OutOfMemory,
+        };
+        if !bound.rule.indexed {
+            return Reply::Unanchored;
+        }
+        self.open(alloc, caller, bound, days, size, asked)
+    }
+
+    /// The caller's open query of a number.
+    fn open_query(&self, caller: &Text, number: u64) -> Option<&OpenQuery>
+        ensures { MatchOption result ((account_of self.now.callers caller.now).queries number ≡ None) (λ q. (account_of self.now.callers caller.now).queries number ≡ Some q.now) }
+    {
+        self.callers.get(caller)?.query(number)
+    }
+
+    fn page(&self, alloc: Global, caller: &Text, number: u64, page: u32) -> Reply
+        ensures { Meets (is_owned (paged (world_of self.now) page ((account_of self.now.callers caller.now).queries number)).reply) (paged (world_of self.now) page ((account_of self.now.callers caller.now).queries number)) (world_of self.now) result (world_of self.now) }
+    {
+        let Some(query) = self.open_query(caller, number) else {
+            return Reply::NotOwned;
+        };
+        match page_of(alloc, &self.events, query, page) {
+            Ok((shown, more)) => Reply::Paged { shown, more },
+            Err(_) => Reply::OutOfMemory,
+        }
+    }
+
+    fn close(&mut self, caller: &Text, number: u64) -> Reply
+        ensures { IsOutcome (dropped (world_of self.old) caller.now number ((account_of self.old.callers caller.now).queries number)) result (world_of self.new) }
+    {
+        if close(&mut self.callers, caller, number) {
+            Reply::Closed
+        } else {
+            Reply::NotOwned
+        }
+    }
+}
+
+fn report_of(tally: Tally, last: u64) -> Report
+    ensures { result ≡ record { new = tally.added; repeat = tally.repeat; bad = tally.bad; last = last } }
+{
+    Report {
+        new: tally.added,
+        repeat: tally.repeat,
+        bad: tally.bad,
+        last,
+    }
+}

@@ -1,0 +1,18 @@
+//! The state machine of the service: what is held, what each caller is granted and asks, and the answer to
+//! each request.
+#![tactic(auto)]
+
+mod bind;
+mod caller;
+mod callers;
+mod desk;
+mod laws;
+mod open_query;
+mod page;
+mod take;
+
+pub use desk::{Desk, Held};
+pub use dw_wire::{Query, Records, Reply, Request, Why};
+pub use laws::{pages_are_the_answer, steps_ascend};
+pub use open_query::{BoundQuery, OpenQuery};
+pub use std::alloc::AllocError as OutOfMemory;

@@ -1,0 +1,8 @@
+use Rattle.dw_wire.proofs.WritingLists.{then, wrote}
+use Rattle.dw_wire.proofs.writing.put_report.Goals as goal
+
+pub returns : goal.returns
+returns c =
+    let all = then (wrote c.in_ok-begin_object.ensures) (then c.in_ok-put_refused.ensures (then c.in_ok-put_number.ensures
+    (then c.in_ok-put_text.ensures (then c.in_ok-put_number-2.ensures (wrote c.in_ok-end_object.ensures))))) in
+    rw (c.as_slice.ensures, c.from.ensures, c.from-2.ensures) at all

@@ -1,0 +1,4 @@
+pub mod Requests
+pub mod ReadLine
+pub mod ReplyText
+pub mod ReplyTokens
