@@ -1,6 +1,7 @@
 use Rattle.std.proofs.Common.{◌≡◌, true, false, length, drop, sym, ap, ◌∙◌, subst, arith}
 use Rattle.std.proofs.lemmas.Grind.{common_steps}
 use Rattle.std.proofs.lemmas.Result.{err_from_is_err_and}
+use Rattle.dw_jexl.specs.declared.parsing.TheConstants.{LEVELS}
 use Rattle.dw_jexl.specs.Tokens.{AreRead}
 use Rattle.dw_jexl.specs.Depth.{is_deep}
 use Rattle.dw_jexl.specs.Patterns.{are_right}
@@ -29,8 +30,8 @@ returns-in_err-query c =
     let l = ap length c.in_ok-chars.ensures in
     let ended = all_read text ts at read (omega (arith, l, c.len.ensures, c.in_ok-chars.chars.ok.0)) in
     let p = err_from_is_err_and c.from_residual-in_err-query.result c.from_residual-in_err-query.ensures.1 in
-    let f = subst (λ us. Fails c.in_err-query.field-0.0 (whole 65 us)) c.deref-3.ensures.value c.in_err-query.ensures in
-    rw (p.1, p.2) (failed text ts 65 c.in_err-query.field-0.0 (omega arith) (omega arith) ended shallow f)
+    let f = subst (λ us. Fails c.in_err-query.field-0.0 (whole LEVELS us)) c.deref-3.ensures.value c.in_err-query.ensures in
+    rw (p.1, p.2) (failed text ts LEVELS c.in_err-query.field-0.0 (omega arith) (omega arith) ended shallow f)
 
 pub returns-then-leaves-gt-MAX_LEAVES : goal.returns-then-leaves-gt-MAX_LEAVES
 returns-then-leaves-gt-MAX_LEAVES c =
@@ -42,7 +43,7 @@ returns-then-leaves-gt-MAX_LEAVES c =
     let shallow : is_deep ts ≡ false = ap is_deep (sym c.deref-2.ensures.value) ∙ sym c.in_ok-is_deep.ensures ∙ c.if-branch.false in
     let l = ap length c.in_ok-chars.ensures in
     let ended = all_read text ts at read (omega (arith, l, c.len.ensures, c.in_ok-chars.chars.ok.0)) in
-    let spelt = is_spelt text ts 65 c.in_ok-query.query (omega arith) ended shallow (ap (whole 65) (sym c.deref-3.ensures.value) ∙ c.in_ok-query.ensures) in
+    let spelt = is_spelt text ts LEVELS c.in_ok-query.query (omega arith) ended shallow (ap (whole LEVELS) (sym c.deref-3.ensures.value) ∙ c.in_ok-query.ensures) in
     (ts, c.in_ok-query.query, spelt, omega (arith, c.leaves.ensures))
 
 pub returns-then-not-branch : goal.returns-then-not-branch
@@ -55,7 +56,7 @@ returns-then-not-branch c =
     let shallow : is_deep ts ≡ false = ap is_deep (sym c.deref-2.ensures.value) ∙ sym c.in_ok-is_deep.ensures ∙ c.if-branch.false in
     let l = ap length c.in_ok-chars.ensures in
     let ended = all_read text ts at read (omega (arith, l, c.len.ensures, c.in_ok-chars.chars.ok.0)) in
-    let spelt = is_spelt text ts 65 c.in_ok-query.query (omega arith) ended shallow (ap (whole 65) (sym c.deref-3.ensures.value) ∙ c.in_ok-query.ensures) in
+    let spelt = is_spelt text ts LEVELS c.in_ok-query.query (omega arith) ended shallow (ap (whole LEVELS) (sym c.deref-3.ensures.value) ∙ c.in_ok-query.ensures) in
     let r : c.in_ok-are_right.field-0 ≡ false = grind (arith, common_steps, c.if-not-branch.true) in
     (ts, c.in_ok-query.query, spelt, omega (arith, c.leaves.ensures), ap are_right (sym c.deref-4.ensures.value) ∙ sym c.in_ok-are_right.ensures ∙ r)
 
@@ -69,6 +70,6 @@ returns c =
     let shallow : is_deep ts ≡ false = ap is_deep (sym c.deref-2.ensures.value) ∙ sym c.in_ok-is_deep.ensures ∙ c.if-branch.false in
     let l = ap length c.in_ok-chars.ensures in
     let ended = all_read text ts at read (omega (arith, l, c.len.ensures, c.in_ok-chars.chars.ok.0)) in
-    let spelt = is_spelt text ts 65 c.in_ok-query.query (omega arith) ended shallow (ap (whole 65) (sym c.deref-3.ensures.value) ∙ c.in_ok-query.ensures) in
+    let spelt = is_spelt text ts LEVELS c.in_ok-query.query (omega arith) ended shallow (ap (whole LEVELS) (sym c.deref-3.ensures.value) ∙ c.in_ok-query.ensures) in
     let r : c.in_ok-are_right.field-0 ≡ true = grind (arith, common_steps, c.if-not-branch.false) in
     record { tokens = ts; spelt = spelt; few = omega (arith, c.leaves.ensures); right = ap are_right (sym c.deref-4.ensures.value) ∙ sym c.in_ok-are_right.ensures ∙ r }
