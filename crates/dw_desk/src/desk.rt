@@ -56,8 +56,8 @@ impl Desk {
         }
     }
 
-    /// Answers one request. Want of memory is a reply, which changes nothing, and which never comes where
-    /// the request is malformed, a query is not the caller's, or a query is closed.
+    /// Answers one request. Want of memory is a reply, which changes nothing, and which never comes to a line
+    /// that is no request, to a page of a query that is not the caller's, or to a close.
     pub fn answer<U: UidMaker>(
         &mut self,
         alloc: Global,
