@@ -63,6 +63,7 @@ fn piece_size(total: u64, room: usize) -> usize
     requires room { 0 < room }
     ensures some { 0 < result }
     ensures room { result ≤ room }
+    ensures whole { total + room ≤ max_input → result ≡ room }
     ensures last { max_input < total + result → (total ≡ max_input) × (result ≡ 1) }
 {
     let left = MAX_INPUT - total;

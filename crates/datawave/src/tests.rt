@@ -108,3 +108,18 @@ fn other_words_are_refused(rt: HostRuntime) -> Result<(), Fail> {
     assert!(rt; two);
     Ok(())
 }
+
+#[test]
+fn each_status_has_its_number_and_its_text(rt: HostRuntime) {
+    for (status, code, text) in [
+        (Status::Done, 0u8, "done"),
+        (Status::BadWords, 2, "bad words"),
+        (Status::ReadFault, 3, "read fault"),
+        (Status::WriteFault, 4, "write fault"),
+        (Status::OutOfMemory, 7, "out of memory"),
+        (Status::TooMuch, 8, "too much input"),
+    ] {
+        assert!(rt; status.code() == code, "{text}");
+        assert!(rt; status.text() == text, "{text}");
+    }
+}
