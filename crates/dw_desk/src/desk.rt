@@ -1,5 +1,6 @@
-ghost use Rattle.std.specs.Prelude.{◌≡◌, ◌+◌, ◌-◌, ◌^◌, ◌<◌, ◌≤◌, ◌==◌, ◌||◌, true, [], IsTrue, length, Some, None, Ok, IfOk, MatchOption};
+ghost use Rattle.std.specs.Prelude.{◌≡◌, ◌↔◌, ◌+◌, ◌-◌, ◌^◌, ◌<◌, ◌≤◌, ◌==◌, ◌||◌, true, [], IsTrue, length, Some, None, Ok, IfOk, MatchOption};
 ghost use Rattle.std.specs.Option.{option_copied};
+ghost use Rattle.dw_dict.specs.Rules.{IsRule};
 ghost use Rattle.dw_desk.specs.Batches.{are_before};
 
 use crate::OutOfMemory;
@@ -16,6 +17,9 @@ use dw_vis::Auths;
 use dw_wire::{Query, Records, Reply, Request, Why};
 use std::alloc::Global;
 use std::collections::BTreeMap;
+
+/// The most records that can be counted.
+const MOST_RECORDS: usize = 4_294_967_295;
 
 /// What is held at a place: the cells of an event and the number of the batch that brought them.
 #[derive(Debug, Drop)]
@@ -42,7 +46,7 @@ impl Desk {
     ghost use Rattle.dw_desk.specs.Step.{step, allowed, asked_for, created, defined, dropped, paged, query_of};
     ghost use Rattle.dw_desk.specs.Desk.{world_of, account_of, is_owned, IsOutcome, Meets, Replies};
     ghost use Rattle.dw_desk.specs.Bound.{bound};
-    ghost use Rattle.dw_dict.specs.Rules.{IsRule, widens};
+    ghost use Rattle.dw_dict.specs.Rules.{widens};
     ghost use Rattle.dw_dict.specs.Dictionary.{rule_of};
 
     pub fn new(alloc: Global) -> Desk
@@ -57,16 +61,15 @@ impl Desk {
     }
 
     /// Answers one request. Want of memory is a reply, which changes nothing, and which never comes to a line
-    /// that is no request, to a page of a query that is not the caller's, or to a close.
+    /// that is no request, to a page of a query that is not the caller's, or to a close. A request that
+    /// `read_line` does not give is answered too, in what way is not said.
     pub fn answer<U: UidMaker>(
         &mut self,
         alloc: Global,
         uids: &U,
         request: &Result<Request, Why>,
     ) -> Reply
-        requires counted { IsCounted request.now }
-        requires ruled { IsRuled request.now }
-        ensures { Replies U.digest (world_of self.old) request.now result (world_of self.new) }
+        ensures { IsCounted request.now → IsRuled request.now → Replies U.digest (world_of self.old) request.now result (world_of self.new) }
     {
         match request {
             Err(why) => Reply::Malformed { why: *why },
@@ -75,9 +78,7 @@ impl Desk {
     }
 
     fn carry_out<U: UidMaker>(&mut self, alloc: Global, uids: &U, request: &Request) -> Reply
-        requires counted { IsCounted (Ok request.now) }
-        requires ruled { IsRuled (Ok request.now) }
-        ensures { Replies U.digest (world_of self.old) (Ok request.now) result (world_of self.new) }
+        ensures { IsCounted (Ok request.now) → IsRuled (Ok request.now) → Replies U.digest (world_of self.old) (Ok request.now) result (world_of self.new) }
     {
         match request {
             Request::Define { field, rule } => self.define(field, *rule),
@@ -107,9 +108,11 @@ impl Desk {
     }
 
     fn define(&mut self, field: &Text, rule: FieldRule) -> Reply
-        requires { IsRule rule }
-        ensures { Meets true (defined (world_of self.old) field.now rule) (world_of self.old) result (world_of self.new) }
+        ensures { IsRule rule → Meets true (defined (world_of self.old) field.now rule) (world_of self.old) result (world_of self.new) }
     {
+        if !is_rule(&rule) {
+            return Reply::OutOfMemory;
+        }
         if !self.may_define(field, &rule) {
             return Reply::NotEmpty;
         }
@@ -132,11 +135,14 @@ impl Desk {
     }
 
     fn ingest<U: UidMaker>(&mut self, alloc: Global, uids: &U, records: &Records) -> Reply
-        requires { length records.now < 2 ^ 32 }
-        ensures { Replies U.digest (world_of self.old) (Ok (Request.Ingest records.now)) result (world_of self.new) }
+        ensures { length records.now < 2 ^ 32 → Replies U.digest (world_of self.old) (Ok (Request.Ingest records.now)) result (world_of self.new) }
     {
+        let all = records.as_slice();
+        if all.len() > MOST_RECORDS {
+            return Reply::OutOfMemory;
+        }
         let last = self.last;
-        match take_batch(alloc, &mut self.events, uids, last, records.as_slice()) {
+        match take_batch(alloc, &mut self.events, uids, last, all) {
             Ok(Some(tally)) => {
                 if tally.added > 0 {
                     self.last = last + 1;
@@ -260,6 +266,13 @@ impl Desk {
             Reply::NotOwned
         }
     }
+}
+
+/// Whether a rule is reversed only where it is indexed.
+fn is_rule(rule: &FieldRule) -> bool
+    ensures { IsTrue result ↔ IsRule rule.now }
+{
+    rule.indexed || !rule.reversed
 }
 
 fn report_of(tally: Tally, last: u64) -> Report

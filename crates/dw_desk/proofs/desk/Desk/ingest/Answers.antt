@@ -17,10 +17,10 @@ Records = List (Result Record BadRecord)
 
 pub returns-after-tally-gt0 : goal.returns-after-tally-gt0
 unfolding step world_of
-returns-after-tally-gt0 g c =
+returns-after-tally-gt0 g c counted =
     let d = c.args.self.now in
     let w : World = world_from d.events.entries d.last d.dict d.callers in
-    let all : Taken = with_records g.U.UidMaker.digest (d.last + 1) (none_taken d.events.entries) c.as_slice.result.now in
+    let all : Taken = with_records g.U.UidMaker.digest (d.last + 1) (none_taken d.events.entries) c.as_slice-all.result.now in
     let events = c.take_batch.new.events in
     let tally = c.in-Ok-Some.tally in
     let taken = subst (λ (o : Option Tally). BatchTaken d.last all d.events events o) c.in-Ok-Some.field-0-is c.in-Ok-Some.ensures.taken in
@@ -33,23 +33,23 @@ returns-after-tally-gt0 g c =
       | else-tally-gt0 t ↦ ap world_of t.self-is ∙ ap (λ (n : ℕ). world_from events.entries n d.dict d.callers) (sym (ap (λ s. s.last) t.self-is))
     ] in
     let base = ingested_taken w all events tally c.if-tally-gt0.self.last taken.0 taken.1 at in
-    subst (λ (rs : Records). Replies g.U.UidMaker.digest w (Ok (Ingest rs)) (Ingested c.report_of.result) (world_of c.if-tally-gt0.self)) c.as_slice.ensures
+    subst (λ (rs : Records). Replies g.U.UidMaker.digest w (Ok (Ingest rs)) (Ingested c.report_of.result) (world_of c.if-tally-gt0.self)) c.as_slice-all.ensures
     (inl (ap Ingested c.report_of.ensures ∙ base.0, kept ∙ base.1))
 
 pub returns-in-Ok-None : goal.returns-in-Ok-None
 unfolding step world_of
-returns-in-Ok-None g c =
+returns-in-Ok-None g c counted =
     let d = c.args.self.now in
     let w : World = world_from d.events.entries d.last d.dict d.callers in
-    let all : Taken = with_records g.U.UidMaker.digest (d.last + 1) (none_taken d.events.entries) c.as_slice.result.now in
+    let all : Taken = with_records g.U.UidMaker.digest (d.last + 1) (none_taken d.events.entries) c.as_slice-all.result.now in
     let taken = subst (λ (o : Option Tally). BatchTaken d.last all d.events c.take_batch.new.events o) c.in-Ok-None.field-0-is c.in-Ok-None.ensures.taken in
     let base = ingested_spent w all taken.0 taken.1 in
-    subst (λ (rs : Records). Replies g.U.UidMaker.digest w (Ok (Ingest rs)) Spent (world_from c.take_batch.new.events.entries d.last d.dict d.callers)) c.as_slice.ensures
+    subst (λ (rs : Records). Replies g.U.UidMaker.digest w (Ok (Ingest rs)) Spent (world_from c.take_batch.new.events.entries d.last d.dict d.callers)) c.as_slice-all.ensures
     (inl (base.0, ap (λ (es : List Event). world_from es d.last d.dict d.callers) taken.2 ∙ base.1))
 
 pub returns-in-Err : goal.returns-in-Err
 unfolding step world_of
-returns-in-Err g c =
+returns-in-Err g c counted =
     let d = c.args.self.now in
     let w : World = world_from d.events.entries d.last d.dict d.callers in
     inr (refl, ap (λ (es : List Event). world_from es d.last d.dict d.callers) c.in-Err.ensures.err, refl)
