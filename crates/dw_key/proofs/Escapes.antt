@@ -30,7 +30,7 @@ AreBytes-escaped [] h = tt
 AreBytes-escaped (zero ∷ p) h = (h.0, AreBytes-escaped p h.1.1)
 AreBytes-escaped (suc b ∷ p) h = (h.0, AreBytes-escaped p h.1)
 
-apart : (a b : ℕ) → (a < b) ⊎ (b < a) → a ≡ b → ⊥
+pub apart : (a b : ℕ) → (a < b) ⊎ (b < a) → a ≡ b → ⊥
 apart a b (inl lt) e = omega arith
 apart a b (inr gt) e = omega arith
 

@@ -7,3 +7,4 @@ pub mod Codes
 pub mod Places
 pub mod Ends
 pub mod Faults
+pub mod Prefixes

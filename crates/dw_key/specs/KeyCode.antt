@@ -18,14 +18,23 @@ part_code part = escaped part ++ 0 ∷ 0 ∷ []
 abbrev pub stamp_code : ℕ → List ℕ
 stamp_code stamp = to_be_bytes w64 (2 ^ 64 - 1 - stamp)
 
+-- some parts, each ended
+abbrev pub parts_code : List (List ℕ) → List ℕ
+parts_code [] = []
+parts_code (part ∷ parts) = part_code part ++ parts_code parts
+
 -- some parts, and then a stamp
 abbrev pub code_of : List (List ℕ) → ℕ → List ℕ
 code_of [] stamp = stamp_code stamp
 code_of (part ∷ parts) stamp = part_code part ++ code_of parts stamp
 
--- row, family, qualifier and visibility, and then the stamp
+-- row, family, qualifier and visibility
+abbrev pub parts_of : Key → List (List ℕ)
+parts_of k = k.row ∷ k.family ∷ k.qualifier ∷ k.vis ∷ []
+
+-- the parts, and then the stamp
 abbrev pub code : Key → List ℕ
-code k = code_of (k.row ∷ k.family ∷ k.qualifier ∷ k.vis ∷ []) k.stamp
+code k = code_of (parts_of k) k.stamp
 
 -- numbers that fit a byte
 abbrev pub AreBytes : List ℕ → Type 0

@@ -4,8 +4,8 @@ ghost use Rattle.dw_key.specs.KeyCode.{code, escaped, stamp_code, IsCode};
 ghost use Rattle.dw_key.specs.KeyFaults.{IsCut, HasEscape, HasTail, IsFault, IsCodeOf, IsEscaped, IsSplit, Spells, IsDecoded, GivesTheKey};
 
 use crate::OutOfMemory;
-use crate::bytes::Bytes;
 use crate::key::Key;
+use dw_base::Bytes;
 use std::alloc::{AllocError, Global};
 
 /// Why bytes are not the code of a key: the first fault from left to right.

@@ -28,6 +28,7 @@ impl PartialOrd for DocKey {
     }
 }
 
+/// The uids are compared only where the types are equal.
 impl Ord for DocKey {
     ghost cmp = { doc_key_cmp };
 
@@ -38,6 +39,8 @@ impl Ord for DocKey {
     ghost matches_eq = { Prim.search (comparing, rules) };
 
     fn cmp(&self, other: &DocKey) -> Ordering {
-        self.dtype.cmp(&other.dtype).then(self.uid.cmp(&other.uid))
+        self.dtype
+            .cmp(&other.dtype)
+            .then_with(|| self.uid.cmp(&other.uid))
     }
 }

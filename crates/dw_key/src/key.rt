@@ -5,7 +5,7 @@ ghost use Rattle.std.specs.Cmp.Rules.{comparing};
 ghost use Rattle.std.proofs.Common.{rules};
 ghost use Rattle.dw_key.specs.KeyOrder.{key_order, keys_total};
 
-use crate::bytes::Bytes;
+use dw_base::Bytes;
 use std::cmp::Ordering;
 
 /// The key of a cell, after Accumulo: where the cell stands in its table, who may see it, and a

@@ -1,78 +1,23 @@
-ghost use Rattle.std.specs.Prelude.{◌≡◌, ◌⊎◌, ◌↔◌, ℕ, List, [], true, IfOk, OnOk, OnErr, take, drop};
-ghost use Rattle.std.specs.List.{prefix_len};
-ghost use Rattle.std.specs.Ordering.{is_lt};
-ghost use Rattle.dw_vis.specs.Names.{name_cmp, IsAscending, has, with_name, common_names};
+ghost use Rattle.std.specs.Prelude.{◌≡◌, ◌⊎◌, ◌↔◌, ℕ, List, [], true, IfOk, OnOk, OnErr};
+ghost use Rattle.dw_vis.specs.Names.{IsAscending, has, with_name, common_names};
 
 use crate::OutOfMemory;
-use crate::name::Name;
+use dw_base::{Sorted, Text};
 use std::alloc::Global;
 use std::marker::Model;
 
 /// A set of names of authorisations, seen as their UTF-8 bytes, ascending as lists of unsigned bytes.
 #[derive(Debug, Drop)]
 pub struct Auths {
-    names: Vec<Name>,
+    names: Sorted<Text>,
 }
 
 impl Model for Auths {
     ghost use Rattle.std.specs.Prelude.{List, ℕ};
-    ghost use Rattle.dw_vis.specs.Names.{IsAscending};
 
     ghost Value = { List (List ℕ) };
 
-    ghost view = { λ a. a.names.items };
-
-    ghost invariant = { λ a. IsAscending a.names.items };
-}
-
-/// How many names come before a name.
-fn place(names: &[Name], name: &[u8]) -> usize
-    requires { IsAscending names.now }
-    ensures { result ≡ prefix_len (λ n. is_lt (name_cmp n name.now)) names.now }
-{
-    names.partition_point(|n| n.comes_before(name))
-}
-
-/// Whether a name stands at a place.
-fn is_at(names: &[Name], at: usize, name: &[u8]) -> bool
-    ensures { result ≡ has (take 1 (drop at names.now)) name.now }
-{
-    match names.get(at) {
-        Some(found) => found.is(name),
-        None => false,
-    }
-}
-
-fn has(names: &[Name], name: &[u8]) -> bool
-    requires { IsAscending names.now }
-    ensures { result ≡ has names.now name.now }
-{
-    is_at(names, place(names, name), name)
-}
-
-/// The names that both have.
-fn common(alloc: Global, names: &[Name], others: &[Name]) -> Result<Vec<Name>, OutOfMemory>
-    requires { IsAscending others.now }
-    ensures { IfOk result (λ v. v.items ≡ common_names names.now others.now) }
-{
-    let mut all = Vec::new(alloc);
-    for name in names {
-        if has(others, name.as_bytes()) {
-            all.push(name.copy()?)?;
-        }
-    }
-    Ok(all)
-}
-
-/// An equal vector of names.
-fn copies(alloc: Global, names: &[Name]) -> Result<Vec<Name>, OutOfMemory>
-    ensures { IfOk result (λ v. v.items ≡ names.now) }
-{
-    let mut all = Vec::new(alloc);
-    for name in names {
-        all.push(name.copy()?)?;
-    }
-    Ok(all)
+    ghost view = { λ a. a.names };
 }
 
 impl Auths {
@@ -81,7 +26,7 @@ impl Auths {
         ensures { result ≡ [] }
     {
         Auths {
-            names: Vec::new(alloc),
+            names: Sorted::new(alloc),
         }
     }
 
@@ -91,12 +36,8 @@ impl Auths {
         ensures members { OnOk result ((other : List ℕ) → (has self.new other ≡ true) ↔ ((has self.old other ≡ true) ⊎ (other ≡ name.now))) }
         ensures err { OnErr result (self.new ≡ self.old) }
     {
-        let at = place(&self.names, name.as_bytes());
-        if is_at(&self.names, at, name.as_bytes()) {
-            return Ok(());
-        }
-        let name = Name::of(*self.names.allocator(), name)?;
-        self.names.insert(at, name)?;
+        let name = Text::of(self.names.allocator(), name)?;
+        self.names.put(name)?;
         Ok(())
     }
 
@@ -105,16 +46,26 @@ impl Auths {
         ensures names { IfOk result (λ both. both ≡ common_names self.now other.now) }
         ensures members { IfOk result (λ both. (name : List ℕ) → (has both name ≡ true) ↔ ((has self.now name ≡ true) × (has other.now name ≡ true))) }
     {
-        let names = common(alloc, &self.names, &other.names)?;
-        Ok(Auths { names })
+        let names = common(alloc, self.names.as_slice(), other)?;
+        Ok(Auths {
+            names: Sorted::from_ascending(names),
+        })
     }
 
     /// An equal set of its own.
     pub fn copy(&self) -> Result<Auths, OutOfMemory>
         ensures { IfOk result (λ auths. auths ≡ self.now) }
     {
-        let names = copies(*self.names.allocator(), &self.names)?;
+        let names = self.names.copy()?;
         Ok(Auths { names })
+    }
+
+    /// The names, in order.
+    pub fn as_slice(&self) -> &[Text]
+        ensures same { result.now ≡ self.now }
+        ensures ascending { IsAscending self.now }
+    {
+        self.names.as_slice()
     }
 
     /// Whether the bytes are those of one of its names.
@@ -122,6 +73,20 @@ impl Auths {
         ensures value { result ≡ has self.now name.now }
         ensures ascending { IsAscending self.now }
     {
-        has(&self.names, name)
+        let _names = self.names.as_slice();
+        self.names.has_name(name)
     }
+}
+
+/// Those of some names that the others have.
+fn common(alloc: Global, names: &[Text], others: &Auths) -> Result<Vec<Text>, OutOfMemory>
+    ensures { IfOk result (λ v. v.items ≡ common_names names.now others.now) }
+{
+    let mut all = Vec::new(alloc);
+    for name in names {
+        if others.has(name.as_str().as_bytes()) {
+            all.push(name.copy()?)?;
+        }
+    }
+    Ok(all)
 }

@@ -21,14 +21,13 @@ mod auths;
 mod depth;
 mod error;
 mod laws;
-mod name;
 mod reading;
 mod vis;
 
 pub use auths::Auths;
+pub use dw_base::OutOfMemory;
 pub use error::VisError;
 pub use laws::{sees_by_the_grammar, spells_one_tree, visibilities_are_tested};
-pub use std::alloc::AllocError as OutOfMemory;
 pub use vis::Vis;
 
 #[cfg(test)]

@@ -16,12 +16,10 @@ use crate::auths::Auths;
 use crate::depth::is_deep;
 use crate::error::VisError;
 use crate::reading::Outcome;
+use dw_base::MAX_VISIBILITY;
 use std::alloc::Global;
 use std::cmp::Ordering;
 use std::marker::Model;
-
-/// The most bytes of a text.
-const MAX_BYTES: usize = 512;
 
 /// A visibility, seen and ordered as the list of its text's bytes. Two spellings of one meaning are two
 /// visibilities.
@@ -55,7 +53,7 @@ fn fault(alloc: Global, text: &[u8]) -> Option<VisError>
     ensures kept { IsNone result → IsVis text.now }
     ensures broken { IfSome result (λ e. Breaks e text.now) }
 {
-    if text.len() > MAX_BYTES {
+    if text.len() > MAX_VISIBILITY {
         return Some(VisError::TooLong);
     }
     if is_deep(text) {

@@ -5,4 +5,4 @@ pub returns : goal.returns
 returns c =
     let all = then (wrote c.in_ok-begin_object.ensures) (then c.in_ok-put_number.ensures (then c.in_ok-put_text.ensures
     (then c.in_ok-put_key.ensures (then c.in_ok-put_text-2.ensures (wrote c.in_ok-end_object.ensures))))) in
-    rw c.as_str.ensures at all
+    rw c.as_str.ensures.same at all

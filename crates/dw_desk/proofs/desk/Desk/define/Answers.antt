@@ -16,4 +16,4 @@ returns-in-Ok c ruled =
     let d = c.args.self.now in
     inl (defined_ok (world_of d) (world_from d.events.entries d.last c.define.new.self d.callers) c.args.field.now c.args.rule (sym c.may_define.ensures ∙ c.if-not-may_define.false)
     (ap (λ (m : Dictionary). world_from d.events.entries d.last m d.callers)
-    (c.in-Ok.ensures.ok ∙ ap (λ (f : List ℕ). map.insert d.dict f c.args.rule) c.as_str.ensures)))
+    (c.in-Ok.ensures.ok ∙ ap (λ (f : List ℕ). map.insert d.dict f c.args.rule) c.as_str.ensures.same)))

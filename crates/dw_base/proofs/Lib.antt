@@ -1,0 +1,4 @@
+pub mod Search
+pub mod Members
+pub mod Memberships
+pub mod NumeralLemmas

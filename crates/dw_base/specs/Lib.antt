@@ -1,0 +1,4 @@
+pub mod Ascending
+pub mod Days
+pub mod FieldNames
+pub mod Numerals
