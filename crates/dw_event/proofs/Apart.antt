@@ -7,9 +7,11 @@ use Rattle.std.proofs.lemmas.Bool.{and_parts, both_ways}
 use Rattle.dw_key.specs.TypeName.{is_type_name, is_type_byte}
 use Rattle.dw_event.specs.declared.cells.EventCell.{EventCell}
 use Rattle.dw_event.specs.declared.records.Record.{Record}
-use Rattle.dw_event.specs.Names.{is_field_name, is_field_byte, is_raw_value, is_visibility, lacks_zero}
+use Rattle.std.specs.Str.{is_utf8}
+use Rattle.dw_base.specs.FieldNames.{is_field_name, is_folded_name, is_word_byte}
+use Rattle.dw_base.specs.Days.{names_day}
+use Rattle.dw_event.specs.Names.{is_raw_value, is_visibility, lacks_zero}
 use Rattle.dw_vis.specs.Test.{is_vis}
-use Rattle.dw_event.specs.Days.{names_day}
 use Rattle.dw_event.specs.Records.{ended, cell_canon, cells_canon, is_cell, IsWellFormed, CanonTellsApart}
 
 -- no byte is 0
@@ -41,8 +43,8 @@ date_lacks : (text : List ℕ) → IsTrue (names_day text) → LacksZero text
 date_lacks text is =
     lacks_from_test is_ascii_digit refl text (and_parts _ (list_all is_ascii_digit text) (and_parts _ _ is).0).1
 
-field_lacks : (text : List ℕ) → IsTrue (is_field_name text) → LacksZero text
-field_lacks text is = lacks_from_test is_field_byte refl text (and_parts _ (list_all is_field_byte text) is).1
+field_lacks : (text : List ℕ) → IsTrue (is_folded_name text) → LacksZero text
+field_lacks text is = lacks_from_test is_word_byte refl text (and_parts _ (list_all is_word_byte text) (and_parts (is_field_name text) _ is).0).1
 
 raw_lacks : (text : List ℕ) → IsTrue (is_raw_value text) → LacksZero text
 raw_lacks text is = lacks_from_test (λ b. not (nat_eq b 0)) refl text (and_parts _ (list_all (λ b. not (nat_eq b 0)) text) is).1
@@ -62,14 +64,16 @@ cell_some c rest e = let long = simp length-append at (ap length e) in omega ari
 -- two cells and what follows each
 cell_apart : (c d : EventCell) (us vs : List ℕ) → IsTrue (is_cell c) → IsTrue (is_cell d) → cell_canon c ++ us ≡ cell_canon d ++ vs → (c ≡ d) × (us ≡ vs)
 cell_apart c d us vs is also e =
-    let left = and_parts (is_field_name c.field) (is_raw_value c.raw && is_visibility c.vis) is in
-    let right = and_parts (is_field_name d.field) (is_raw_value d.raw && is_visibility d.vis) also in
-    let left_more = and_parts (is_raw_value c.raw) (is_visibility c.vis) left.1 in
-    let right_more = and_parts (is_raw_value d.raw) (is_visibility d.vis) right.1 in
+    let left = and_parts (is_folded_name c.field) (is_raw_value c.raw && is_utf8 c.raw && is_visibility c.vis) is in
+    let right = and_parts (is_folded_name d.field) (is_raw_value d.raw && is_utf8 d.raw && is_visibility d.vis) also in
+    let left_more = and_parts (is_raw_value c.raw && is_utf8 c.raw) (is_visibility c.vis) left.1 in
+    let right_more = and_parts (is_raw_value d.raw && is_utf8 d.raw) (is_visibility d.vis) right.1 in
+    let left_raw = and_parts (is_raw_value c.raw) (is_utf8 c.raw) left_more.0 in
+    let right_raw = and_parts (is_raw_value d.raw) (is_utf8 d.raw) right_more.0 in
     let whole : ended c.field ++ (ended c.raw ++ (ended c.vis ++ us)) ≡ ended d.field ++ (ended d.raw ++ (ended d.vis ++ vs)) =
     sym (four (ended c.field) (ended c.raw) (ended c.vis) us) ∙ e ∙ four (ended d.field) (ended d.raw) (ended d.vis) vs in
     let fields = ended_apart c.field d.field _ _ (field_lacks c.field left.0) (field_lacks d.field right.0) whole in
-    let raws = ended_apart c.raw d.raw _ _ (raw_lacks c.raw left_more.0) (raw_lacks d.raw right_more.0) fields.1 in
+    let raws = ended_apart c.raw d.raw _ _ (raw_lacks c.raw left_raw.0) (raw_lacks d.raw right_raw.0) fields.1 in
     let rests = ended_apart c.vis d.vis us vs (vis_lacks c.vis left_more.1) (vis_lacks d.vis right_more.1) raws.1 in
     ((λ i. record { field = fields.0 i; raw = raws.0 i; vis = rests.0 i }), rests.1)
 
@@ -93,7 +97,7 @@ record Kept (r : Record) : Type 0 where
 
 kept : (r : Record) → IsWellFormed r → Kept r
 kept r is =
-    let size = and_parts _ _ is in
+    let size = and_parts _ _ is.rules in
     let cells = and_parts _ (list_all is_cell r.cells) size.0 in
     let few = and_parts _ _ cells.0 in
     let some = and_parts _ _ few.0 in

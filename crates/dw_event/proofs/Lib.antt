@@ -1,6 +1,4 @@
-pub mod Sorted
-pub mod CellOrder
-pub mod PairOrder
-pub mod ViewLemmas
 pub mod Apart
+pub mod PageLemmas
 pub mod Spelling
+pub mod ViewLemmas

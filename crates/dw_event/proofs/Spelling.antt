@@ -1,14 +1,8 @@
--- Digits at the front of a text, and the numbers that they spell.
-use Rattle.std.proofs.Common.{◌≡◌, ℕ, ◌+◌, ◌-◌, ◌*◌, ◌≤◌, List, [], ◌∷◌, length, take, ap, arith}
+-- Digits at the front of a text.
+use Rattle.std.proofs.Common.{◌≡◌, ℕ, List, length, take, ap}
 use Rattle.std.specs.Char.{is_ascii_digit}
 use Rattle.std.proofs.lemmas.List.Folds.{length-prefix_len}
-use Rattle.dw_event.specs.Numbers.{decimal_from}
 use Rattle.dw_event.specs.Marks.{front_digits}
-
--- more digits spell no smaller number
-pub le_decimal_from : (n : ℕ) (bs : List ℕ) → n ≤ decimal_from n bs
-le_decimal_from n [] = omega arith
-le_decimal_from n (b ∷ bs) = omega (arith, le_decimal_from (10 * n + (b - 48)) bs)
 
 -- the digits at the front are as many bytes of the text
 pub take-front_digits : (text : List ℕ) → take (length (front_digits text)) text ≡ front_digits text

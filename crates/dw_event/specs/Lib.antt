@@ -1,5 +1,4 @@
 pub mod Names
-pub mod Days
 pub mod Cells
 pub mod Views
 pub mod Texts
@@ -7,3 +6,7 @@ pub mod Records
 pub mod Numbers
 pub mod Marks
 pub mod Places
+pub mod Take
+pub mod Seen
+pub mod Wanted
+pub mod Pages

@@ -1,10 +1,10 @@
 -- Uids that a record carries in its own text, for tests.
-use Rattle.std.specs.Prelude.{ℕ, ◌^◌, ◌&&◌, nat_lt, nat_eq, if◌then◌else◌, Option, Some, None, List, [], ◌∷◌, ◌++◌, length, drop, take_while, replicate}
-use Rattle.std.specs.Option.{option_and_then, option_map_or}
+use Rattle.std.specs.Prelude.{ℕ, ◌-◌, ◌^◌, nat_eq, if◌then◌else◌, Option, Some, None, List, [], ◌∷◌, ◌++◌, length, drop, take_while, replicate}
+use Rattle.std.specs.Option.{option_map, option_and_then, option_map_or}
 use Rattle.std.specs.List.{starts_with}
 use Rattle.std.specs.Char.{is_ascii_digit}
 use Rattle.std.specs.Int.{w64, to_be_bytes}
-use Rattle.dw_event.specs.Numbers.{decimal_value}
+use Rattle.dw_base.specs.Numerals.{numeral_up_to}
 
 -- what stands after the first place where the bytes 0, `I`, `D`, 0 stand
 abbrev pub after_mark : List ℕ → Option (List ℕ)
@@ -17,10 +17,7 @@ front_digits text = take_while is_ascii_digit text
 
 -- the number below 2^32 that one or more digits at the front of a text spell, and what stands after them
 abbrev pub front_number : List ℕ → Option (ℕ × List ℕ)
-front_number text =
-    if nat_lt 0 (length (front_digits text)) && nat_lt (decimal_value (front_digits text)) (2 ^ 32)
-    then Some (decimal_value (front_digits text), drop (length (front_digits text)) text)
-    else None
+front_number text = option_map (λ n. (n, drop (length (front_digits text)) text)) (numeral_up_to (2 ^ 32 - 1) (front_digits text))
 
 -- what stands after a `-` at the front of a text
 abbrev pub after_dash : List ℕ → Option (List ℕ)

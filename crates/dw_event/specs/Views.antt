@@ -1,11 +1,13 @@
 -- What a reader sees of an event.
-use Rattle.std.specs.Prelude.{◌≡◌, ◌↔◌, ℕ, ◌≤◌, true, List, [], ◌∷◌, length, insert, if◌then◌else◌}
+use Rattle.std.specs.Prelude.{◌≡◌, ◌↔◌, ℕ, List, map, filter}
+use Rattle.std.proofs.Common.{ap}
 use Rattle.std.specs.Ordering.{nat_cmp, on, then_cmp}
 use Rattle.std.specs.Cmp.Lexicographic.{slice_cmp}
 use Rattle.std.specs.List.{Contains}
-use Rattle.std.specs.List.Sorted.{IsStrictlySortedBy}
-use Rattle.std.specs.BTreeSet.{insert_key}
 use Rattle.std.specs.declared.cmp.Ordering.{Ordering}
+use Rattle.std.specs.declared.cmp.Ordering.TheVariants.{Equal}
+use Rattle.std.proofs.lemmas.Map.Lookups as found
+use Rattle.dw_base.specs.Ascending as set
 use Rattle.dw_vis.specs.Sight.{sees}
 use Rattle.dw_vis.specs.Grammar.{Sees}
 use Rattle.dw_event.specs.declared.cells.EventCell.{EventCell}
@@ -15,31 +17,27 @@ use Rattle.dw_event.specs.declared.views.Pair.{Pair}
 abbrev pub pair_cmp : Pair → Pair → Ordering
 pair_cmp = then_cmp (on (λ p. p.field) (slice_cmp nat_cmp)) (on (λ p. p.raw) (slice_cmp nat_cmp))
 
+-- pairs that are ordered alike are equal
+pub exact_pairs : (p q : Pair) → pair_cmp p q ≡ Equal → p ≡ q
+exact_pairs p q e =
+    ap (λ (x : List ℕ × List ℕ). record { field = x.0; raw = x.1 })
+    (found.exact_pairs (slice_cmp nat_cmp) (slice_cmp nat_cmp) found.exact_bytes found.exact_bytes (p.field, p.raw) (q.field, q.raw) e)
+
 -- each pair is below those after it
 abbrev pub IsAscending : List Pair → Type 0
-IsAscending pairs = IsStrictlySortedBy pair_cmp pairs
-
--- the pairs with one more at its place, unless an equal one is there
-abbrev pub with_pair : List Pair → Pair → List Pair
-with_pair pairs pair = insert_key pair_cmp pairs pair
-
--- the place at which a new pair goes in
-pub record IsGap (pairs : List Pair) (pair : Pair) (at : ℕ) : Type 0 where
-  pub within : at ≤ length pairs
-  pub placed : with_pair pairs pair ≡ insert pairs at pair
+IsAscending pairs = set.IsAscending pair_cmp pairs
 
 -- the field and the raw value of a cell
 abbrev pub pair_of : EventCell → Pair
 pair_of cell = record { field = cell.field; raw = cell.raw }
 
--- the pairs with those of the cells that the names see
-abbrev pub view_from : List (List ℕ) → List Pair → List EventCell → List Pair
-view_from names pairs [] = pairs
-view_from names pairs (c ∷ cs) = view_from names (if sees c.vis names then with_pair pairs (pair_of c) else pairs) cs
+-- the pairs of field and raw value of the cells that the names see
+abbrev pub seen_pairs : List (List ℕ) → List EventCell → List Pair
+seen_pairs names cells = map pair_of (filter (λ c. sees c.vis names) cells)
 
--- the pairs of field and raw value that have a cell which the names see, each once, ascending
+-- the set of the pairs of field and raw value that have a cell which the names see
 abbrev pub view_of : List (List ℕ) → List EventCell → List Pair
-view_of names cells = view_from names [] cells
+view_of names cells = set.set_of pair_cmp (seen_pairs names cells)
 
 -- some cell of this field and raw value is seen by the names
 abbrev pub IsShown : List (List ℕ) → List EventCell → Pair → Type 0

@@ -4,25 +4,29 @@
 
 mod canon;
 mod cells;
+mod counts;
 mod days;
-mod listed;
+mod laws;
 mod marks;
 mod places;
 mod records;
 mod reports;
+mod types;
 mod uids;
 mod viewing;
 mod views;
 
 pub use canon::{canonical, canonical_tells_apart};
 pub use cells::{Cells, EventCell};
+pub use counts::{After, ValueCount};
 pub use days::Days;
-pub use listed::Listed;
+pub use dw_base::{Listed, OutOfMemory};
+pub use laws::pages_are_the_answer;
 pub use marks::MarkUid;
 pub use places::place;
-pub use records::{Event, Place, Record};
+pub use records::{Event, Held, Place, Record};
 pub use reports::{Bad, BadReason, BadRecord, Report, Shown};
-pub use std::alloc::AllocError as OutOfMemory;
+pub use types::Types;
 pub use uids::{ConstUid, ShaUid, UidMaker};
 pub use viewing::{view, view_cells, views_are_exact};
 pub use views::{Pair, View};

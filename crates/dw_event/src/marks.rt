@@ -1,9 +1,9 @@
-ghost use Rattle.std.specs.Prelude.{◌≡◌, ◌++◌, if◌then◌else◌, nat_lt, ◌<◌, ◌^◌, Some, None, ℕ, List, IfSome, length, drop, take, replicate};
+ghost use Rattle.std.specs.Prelude.{◌≡◌, length};
 ghost use Rattle.std.specs.Option.{option_map, option_and_then};
 ghost use Rattle.dw_event.specs.Marks.{after_mark, front_number, front_digits, after_dash, front_pair, pair_uid, mark_uid};
-ghost use Rattle.dw_event.specs.Numbers.{decimal_value};
 
 use crate::uids::UidMaker;
+use dw_base::read_numeral;
 use dw_key::Uid;
 
 /// Reads the uid from the record itself. For tests. At the first place where the bytes 0, `I`, `D`, 0
@@ -64,34 +64,14 @@ fn read_number(text: &[u8]) -> Option<(u32, &[u8])>
     ensures { option_map (λ (n, rest). (n, rest.now)) result ≡ front_number text.now }
 {
     let count = count_digits(text);
-    if count == 0 {
-        return None;
-    }
-    match number_of(&text[..count]) {
-        Some(n) => Some((n, &text[count..])),
-        None => None,
-    }
+    let number = read_numeral(&text[..count], u64::from(u32::MAX))?;
+    Some((number as u32, &text[count..]))
 }
 
 fn count_digits(text: &[u8]) -> usize
     ensures { result ≡ length (front_digits text.now) }
 {
     text.iter().take_while(|b| b.is_ascii_digit()).count()
-}
-
-/// The number that digits spell, where it is below 2^32.
-#[tactic(auto, using(crate::proofs::Spelling::le_decimal_from))]
-fn number_of(digits: &[u8]) -> Option<u32>
-    ensures { result ≡ (if nat_lt (decimal_value digits.now) (2 ^ 32) then Some (decimal_value digits.now) else None) }
-{
-    let mut value = 0u64;
-    for b in digits {
-        value = 10 * value + u64::from(b.saturating_sub(b'0'));
-        if value > u64::from(u32::MAX) {
-            return None;
-        }
-    }
-    Some(value as u32)
 }
 
 fn spelled(s: u32, i: u32) -> Uid

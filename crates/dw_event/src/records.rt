@@ -6,7 +6,8 @@ ghost use Rattle.std.proofs.Common.{rules};
 ghost use Rattle.dw_event.specs.Places.{place_cmp};
 
 use crate::cells::Cells;
-use dw_key::{DType, DocKey, Text};
+use dw_base::Text;
+use dw_key::{DType, DocKey};
 use std::cmp::Ordering;
 
 /// What comes in: a type, a date of eight digits and the set of cells.
@@ -23,6 +24,13 @@ pub struct Record {
 pub struct Event {
     pub shard: Text,
     pub key: DocKey,
+    pub cells: Cells,
+    pub batch: u64,
+}
+
+/// What is held at a place: the cells of an event and the number of the batch that brought them.
+#[derive(Debug, Drop)]
+pub struct Held {
     pub cells: Cells,
     pub batch: u64,
 }

@@ -1,7 +1,7 @@
-use crate::listed::Listed;
 use crate::records::Place;
 use crate::views::View;
-use dw_key::{DocKey, Text};
+use dw_base::{Listed, Text};
+use dw_key::DocKey;
 
 /// Why what was sent as a record is none: the first of these rules, in this order, that it breaks.
 #[derive(Clone, Copy, Debug, PartialEq, Eq)]

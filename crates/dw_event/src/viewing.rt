@@ -1,5 +1,5 @@
 ghost use Rattle.std.specs.Prelude.{◌≡◌, IfOk};
-ghost use Rattle.dw_event.specs.Views.{pair_of, view_of, ViewsAreExact};
+ghost use Rattle.dw_event.specs.Views.{pair_of, seen_pairs, view_of, ViewsAreExact};
 
 use crate::OutOfMemory;
 use crate::cells::{Cells, EventCell};
@@ -17,18 +17,26 @@ fn shown_pair(cell: &EventCell) -> Result<Pair, OutOfMemory>
     Ok(Pair { field, raw })
 }
 
+/// The pairs of the cells that a reader of these authorisations sees, in the order of the cells.
+fn pairs_seen(alloc: Global, cells: &[EventCell], auths: &Auths) -> Result<Vec<Pair>, OutOfMemory>
+    ensures { IfOk result (λ v. v.items ≡ seen_pairs auths.now cells.now) }
+{
+    let mut pairs = Vec::new(alloc);
+    for cell in cells {
+        if cell.vis.sees(auths) {
+            pairs.push(shown_pair(cell)?)?;
+        }
+    }
+    Ok(pairs)
+}
+
 /// What a reader of these authorisations sees of some cells: the pairs of field and value that have a cell
 /// which they see, each once.
 pub fn view_cells(alloc: Global, cells: &Cells, auths: &Auths) -> Result<View, OutOfMemory>
     ensures { IfOk result (λ v. v ≡ view_of auths.now cells.now) }
 {
-    let mut view = View::new(alloc);
-    for cell in cells.as_slice() {
-        if cell.vis.sees(auths) {
-            view.put(shown_pair(cell)?)?;
-        }
-    }
-    Ok(view)
+    let pairs = pairs_seen(alloc, cells.as_slice(), auths)?;
+    Ok(View::from_vec(pairs))
 }
 
 /// What a reader of these authorisations sees of an event.

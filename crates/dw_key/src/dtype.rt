@@ -7,6 +7,7 @@ ghost use Rattle.std.specs.Cmp.Rules.{comparing};
 ghost use Rattle.std.proofs.Common.{rules};
 ghost use Rattle.dw_key.specs.TypeName.{is_type_byte, is_type_name, padded};
 
+use dw_base::{OutOfMemory, Twin};
 use std::cmp::Ordering;
 use std::marker::Model;
 
@@ -138,4 +139,10 @@ fn zero_padded(bytes: &[u8]) -> [u8; 64]
     let mut all = [0u8; 64];
     fill(&mut all, bytes);
     all
+}
+
+impl Twin for DType {
+    fn copy(&self) -> Result<DType, OutOfMemory> {
+        Ok(*self)
+    }
 }

@@ -1,8 +1,0 @@
-use Rattle.dw_event.proofs.CellOrder.{with_cell_found, gap_found}
-use Rattle.dw_event.proofs.cells.gap.Goals as goal
-
-pub returns-in-Ok : goal.returns-in-Ok
-returns-in-Ok c = with_cell_found c.args.cells.now c.args.cell.now c.in-Ok._at c.requires c.in-Ok.ensures.bound c.in-Ok.ensures.ok
-
-pub returns-in-Err : goal.returns-in-Err
-returns-in-Err c = gap_found c.args.cells.now c.args.cell.now c.in-Err.at c.requires c.in-Err.ensures.bound c.in-Err.ensures.position
