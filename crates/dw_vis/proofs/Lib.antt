@@ -9,3 +9,4 @@ pub mod Sound
 pub mod Standing
 pub mod Verdicts
 mod Testing
+pub mod Nesting

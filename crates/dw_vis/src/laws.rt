@@ -1,7 +1,7 @@
 //! What holds of all texts and names. The functions do nothing: their contracts are laws.
 
 ghost use Rattle.dw_vis.specs.Test.{VisIsTested};
-ghost use Rattle.dw_vis.specs.Laws.{SpellsOneTree, SeesByTheGrammar};
+ghost use Rattle.dw_vis.specs.Laws.{SpellsOneTree, SeesByTheGrammar, DepthIsNesting};
 
 /// A text spells at most one tree.
 pub fn spells_one_tree()
@@ -17,4 +17,10 @@ pub fn sees_by_the_grammar()
 #[tactic(auto, using(crate::proofs::Testing::vis_is_tested))]
 pub fn visibilities_are_tested()
     ensures { VisIsTested }
+{}
+
+/// A text of the grammar is too deep exactly where its groups stand more than 32 deep in one another.
+#[tactic(auto, using(crate::proofs::Nesting::depth_is_nesting))]
+pub fn depth_is_nesting()
+    ensures { DepthIsNesting }
 {}

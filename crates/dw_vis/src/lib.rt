@@ -27,7 +27,7 @@ mod vis;
 pub use auths::Auths;
 pub use dw_base::OutOfMemory;
 pub use error::VisError;
-pub use laws::{sees_by_the_grammar, spells_one_tree, visibilities_are_tested};
+pub use laws::{depth_is_nesting, sees_by_the_grammar, spells_one_tree, visibilities_are_tested};
 pub use vis::Vis;
 
 #[cfg(test)]

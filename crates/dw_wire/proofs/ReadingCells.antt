@@ -12,7 +12,8 @@ use Rattle.dw_event.specs.Cells.{cell_cmp, with_cell}
 use Rattle.dw_event.specs.Names.{is_raw_value}
 use Rattle.dw_event.specs.declared.cells.EventCell.{EventCell}
 use Rattle.dw_wire.specs.declared.reading.gathered.Gathered.{Gathered}
-use Rattle.dw_wire.specs.ReadLine.{guarded, is_field_name, cell_of, few, with_value, item_parts, with_item, with_items, with_values, has_items, with_fields, has_members}
+use Rattle.dw_base.specs.FieldNames.{is_field_name}
+use Rattle.dw_wire.specs.ReadLine.{guarded, cell_of, few, with_value, item_parts, with_item, with_items, with_values, has_items, with_fields, has_members}
 
 -- at least as many cells come out as went in
 abbrev Grows : Gathered → Option Gathered → Type 0

@@ -1,4 +1,3 @@
-pub mod Requests
 pub mod ReadLine
 pub mod ReplyText
 pub mod ReplyTokens

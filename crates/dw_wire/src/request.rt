@@ -1,9 +1,10 @@
 ghost use Rattle.std.specs.Prelude.{◌≡◌, IfOk};
 
 use crate::OutOfMemory;
+use crate::records::Records;
+use dw_base::Text;
 use dw_dict::FieldRule;
-use dw_event::{BadRecord, Days, Listed, Record};
-use dw_key::Text;
+use dw_event::Days;
 use dw_vis::Auths;
 
 /// What a line asks for.
@@ -71,6 +72,3 @@ impl Query {
         })
     }
 }
-
-/// The records of an ingest, each read or the rule that it breaks.
-pub type Records = Listed<Result<Record, BadRecord>>;

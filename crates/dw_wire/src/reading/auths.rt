@@ -11,7 +11,7 @@ use serde_json::Value;
 use std::alloc::Global;
 
 /// The most names of a list, as they are written.
-const MOST_NAMES: usize = 256;
+const MAX_NAMES: usize = 256;
 
 fn auth_name(value: &Value) -> Option<&str>
     ensures { option_map (λ s. s.now) result ≡ option_and_then (λ name. guarded (is_auth name) (Some name)) (as_str (view value.now)) }
@@ -40,7 +40,7 @@ fn put_auths(alloc: Global, items: &[Value]) -> Result<Option<Auths>, OutOfMemor
 fn read_auths(alloc: Global, items: &[Value]) -> Result<Option<Auths>, OutOfMemory>
     ensures { IfOk result (λ o. o ≡ auths_of (items_view items.now)) }
 {
-    if items.len() > MOST_NAMES {
+    if items.len() > MAX_NAMES {
         return Ok(None);
     }
     put_auths(alloc, items)

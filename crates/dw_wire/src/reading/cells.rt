@@ -6,17 +6,14 @@ ghost use Rattle.dw_wire.specs.ReadLine.{guarded, has_items, cell_of, few, with_
 use crate::OutOfMemory;
 use crate::reading::gathered::Gathered;
 use crate::reading::members::{is_object_of, text_member};
-use crate::reading::texts::{names_field, names_value};
+use crate::reading::texts::names_value;
 use crate::reading::visibilities::{copy_of, member_vis};
+use dw_base::{MAX_CELLS, Text, is_field_name};
 use dw_event::{Cells, EventCell};
-use dw_key::Text;
 use dw_vis::Vis;
 use serde_json::{Map, Value};
 use std::alloc::Global;
 use std::collections::BTreeSet;
-
-/// The most cells of a record.
-const MOST_CELLS: usize = 4096;
 
 fn cell(alloc: Global, name: &str, raw: &str, vis: Vis) -> Result<EventCell, OutOfMemory>
     ensures { IfOk result (λ c. c ≡ cell_of name.now raw.now vis) }
@@ -29,7 +26,7 @@ fn cell(alloc: Global, name: &str, raw: &str, vis: Vis) -> Result<EventCell, Out
 fn if_few(gathered: Gathered) -> Option<Gathered>
     ensures { result ≡ few (Some gathered) }
 {
-    if gathered.cells.as_slice().len() > MOST_CELLS {
+    if gathered.cells.as_slice().len() > MAX_CELLS {
         return None;
     }
     Some(gathered)
@@ -176,7 +173,7 @@ fn put_fields(
 {
     let mut gathered = none;
     for (name, value) in members.iter() {
-        if !names_field(name.as_str()) {
+        if !is_field_name(name.as_str()) {
             return Ok(None);
         }
         gathered = match put_values(alloc, name.as_str(), default, gathered, value)? {

@@ -4,9 +4,8 @@ ghost use Rattle.dw_wire.specs.ReadLine.{field_at, kind_of, rule_at, rule_of_par
 
 use crate::OutOfMemory;
 use crate::reading::members::{bool_member, text_member};
-use crate::reading::texts::names_field;
+use dw_base::{Text, is_field_name};
 use dw_dict::FieldRule;
-use dw_key::Text;
 use dw_norm::Kind;
 use serde_json::Value;
 use std::alloc::Global;
@@ -35,14 +34,7 @@ fn kind_named(name: &str) -> Option<Kind>
 fn rule_from(kind: Kind, indexed: bool, reversed: bool) -> Option<FieldRule>
     ensures { result ≡ rule_of_parts kind indexed reversed }
 {
-    if reversed && !indexed {
-        return None;
-    }
-    Some(FieldRule {
-        kind,
-        indexed,
-        reversed,
-    })
+    FieldRule::of(kind, indexed, reversed)
 }
 
 /// The rule that a definition gives: a kind by its name and two truth values, `reversed` only with
@@ -65,7 +57,7 @@ pub fn member_field(alloc: Global, value: &Value) -> Result<Option<Text>, OutOfM
         Some(name) => name,
         None => return Ok(None),
     };
-    if !names_field(name) {
+    if !is_field_name(name) {
         return Ok(None);
     }
     Ok(Some(Text::from_string(name.to_ascii_uppercase(alloc)?)))

@@ -4,14 +4,15 @@ ghost use Rattle.std.specs.Str.{bytes_eq};
 ghost use Rattle.dw_wire.specs.ReadLine.{query_words, is_query_field, is_plain_byte, is_plain, field_part, literal_part, is_written, query_of_parts, query_of, days_of};
 
 use crate::OutOfMemory;
-use crate::reading::texts::{is_one_of, names_date, names_field, number_of};
+use crate::reading::texts::is_one_of;
 use crate::request::Query;
+use dw_base::{Text, is_field_name};
 use dw_event::Days;
-use dw_key::Text;
+use dw_norm::read_day;
 use std::alloc::Global;
 
 /// The most bytes of a query's text.
-const MOST_QUERY: usize = 16_384;
+const MAX_QUERY: usize = 16_384;
 
 fn is_query_word(name: &str) -> bool
     ensures { result ≡ list_any (λ w. bytes_eq w name.now) query_words }
@@ -38,7 +39,7 @@ fn is_query_word(name: &str) -> bool
 fn names_query_field(name: &str) -> bool
     ensures { result ≡ is_query_field name.now }
 {
-    names_field(name) && !is_query_word(name)
+    is_field_name(name) && !is_query_word(name)
 }
 
 fn may_be_quoted(byte: u8) -> bool
@@ -81,7 +82,7 @@ fn query_from(alloc: Global, field: &str, literal: &str) -> Result<Option<Query>
 pub fn read_query(alloc: Global, text: &str) -> Result<Option<Query>, OutOfMemory>
     ensures { IfOk result (λ o. o ≡ query_of text.now) }
 {
-    if text.len() > MOST_QUERY {
+    if text.len() > MAX_QUERY {
         return Ok(None);
     }
     match query_parts(text) {
@@ -95,13 +96,14 @@ pub fn read_query(alloc: Global, text: &str) -> Result<Option<Query>, OutOfMemor
 pub fn read_days(alloc: Global, first: &str, last: &str) -> Result<Option<Days>, OutOfMemory>
     ensures { IfOk result (λ o. o ≡ days_of first.now last.now) }
 {
-    if !names_date(first) || !names_date(last) {
+    let Some(first) = read_day(alloc, first)? else {
+        return Ok(None);
+    };
+    let Some(last) = read_day(alloc, last)? else {
+        return Ok(None);
+    };
+    if first.cmp(&last).is_gt() {
         return Ok(None);
     }
-    if number_of(first.as_bytes()) > number_of(last.as_bytes()) {
-        return Ok(None);
-    }
-    let first = Text::of(alloc, first)?;
-    let last = Text::of(alloc, last)?;
     Ok(Some(Days { first, last }))
 }

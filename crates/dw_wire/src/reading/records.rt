@@ -6,26 +6,24 @@ use crate::OutOfMemory;
 use crate::reading::cells::fields_cells;
 use crate::reading::gathered::Gathered;
 use crate::reading::members::{is_object_of, object_member, text_member};
-use crate::reading::texts::names_date;
 use crate::reading::visibilities::member_vis;
-use crate::request::Records;
-use dw_event::{BadRecord, Listed, Record, canonical};
-use dw_key::{DType, Text};
+use crate::records::Records;
+use dw_base::MAX_CANONICAL;
+use dw_event::{BadRecord, Record, canonical};
+use dw_key::DType;
+use dw_norm::read_day;
 use dw_vis::Vis;
 use serde_json::Value;
 use std::alloc::Global;
 
-/// The most bytes of a record's canonical form.
-const MOST_CANONICAL: usize = 65_536;
-
 /// The most records of a batch.
-const MOST_RECORDS: usize = 10_000;
+const MAX_RECORDS: usize = 10_000;
 
 fn is_within_limit(alloc: Global, rec: &Record) -> Result<bool, OutOfMemory>
     ensures { IfOk result (λ b. b ≡ keeps_limit rec.now) }
 {
     let bytes = canonical(alloc, rec)?;
-    Ok(bytes.as_slice().len() <= MOST_CANONICAL)
+    Ok(bytes.as_slice().len() <= MAX_CANONICAL)
 }
 
 fn record_from(
@@ -40,13 +38,12 @@ fn record_from(
         Some(dtype) => dtype,
         None => return Ok(None),
     };
-    if !names_date(date) {
+    let Some(date) = read_day(alloc, date)? else {
         return Ok(None);
-    }
+    };
     if gathered.refused {
         return Ok(Some(Err(BadRecord::Visibility)));
     }
-    let date = Text::of(alloc, date)?;
     let rec = Record {
         dtype,
         date,
@@ -93,7 +90,7 @@ fn read_record(
 fn read_records(alloc: Global, items: &[Value]) -> Result<Option<Records>, OutOfMemory>
     ensures { IfOk result (λ o. o ≡ records_of (items_view items.now)) }
 {
-    let mut records = Listed::new(alloc);
+    let mut records = Records::new(alloc);
     for value in items {
         match read_record(alloc, value)? {
             Some(rec) => records.put(rec)?,
@@ -110,7 +107,7 @@ fn read_records(alloc: Global, items: &[Value]) -> Result<Option<Records>, OutOf
 pub fn read_batch(alloc: Global, items: &[Value]) -> Result<Option<Records>, OutOfMemory>
     ensures { IfOk result (λ o. o ≡ batch_of (items_view items.now)) }
 {
-    if items.len() > MOST_RECORDS {
+    if items.len() > MAX_RECORDS {
         return Ok(None);
     }
     read_records(alloc, items)

@@ -16,13 +16,13 @@ use serde_json::Value;
 use std::alloc::Global;
 
 /// The most events of a page.
-const MOST_SIZE: u64 = 1000;
+const MAX_SIZE: u64 = 1000;
 
 /// The most pages that can be asked for.
-const MOST_PAGES: u64 = 4_294_967_295;
+const MAX_PAGE: u64 = 4_294_967_295;
 
 /// The greatest number of a query.
-const MOST_QUERIES: u64 = 9_223_372_036_854_775_807;
+const MAX_NUMBER: u64 = 9_223_372_036_854_775_807;
 
 fn ingest(alloc: Global, value: &Value) -> Result<Option<Request>, OutOfMemory>
     ensures { IfOk result (λ o. o ≡ ingest_of (view value.now)) }
@@ -47,7 +47,7 @@ fn page_size(value: &Value) -> Option<u32>
     if value.get("size").is_none() {
         return Some(10);
     }
-    let size = number_member(value, "size", MOST_SIZE)?;
+    let size = number_member(value, "size", MAX_SIZE)?;
     Some(size as u32)
 }
 
@@ -158,7 +158,7 @@ fn create(alloc: Global, value: &Value) -> Result<Option<Request>, OutOfMemory>
 fn number_of_query(value: &Value) -> Option<u64>
     ensures { result ≡ query_number (view value.now) }
 {
-    number_member(value, "number", MOST_QUERIES)
+    number_member(value, "number", MAX_NUMBER)
 }
 
 fn page(alloc: Global, value: &Value) -> Result<Option<Request>, OutOfMemory>
@@ -175,7 +175,7 @@ fn page(alloc: Global, value: &Value) -> Result<Option<Request>, OutOfMemory>
         Some(number) => number,
         None => return Ok(None),
     };
-    match number_member(value, "page", MOST_PAGES) {
+    match number_member(value, "page", MAX_PAGE) {
         Some(page) => Ok(Some(Request::Page {
             caller,
             number,
