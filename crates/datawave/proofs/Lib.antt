@@ -4,4 +4,3 @@ pub mod Sessions
 pub mod Feeds
 pub mod Pieces
 pub mod Running
-pub mod LawLemmas

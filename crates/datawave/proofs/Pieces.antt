@@ -2,7 +2,7 @@
 use Rattle.std.proofs.Common.{◌≡◌, ◌++◌, ◌∷◌, [], ℕ, List, Option, refl, sym, ap, ◌∙◌, subst, append_assoc, append-nil}
 use Rattle.datawave.specs.Lines.{kept, whole_lines_after, rest_after}
 use Rattle.dw_desk.specs.World.{World}
-use Rattle.datawave.specs.Session.{Digest}
+use Rattle.dw_desk.specs.Session.{Digest}
 use Rattle.datawave.specs.Exchange.{LinePut, LineLacks, LinesPut, LinesLack}
 use Rattle.datawave.proofs.Sessions.{put_none, put_then, put_one, lack_then, lack_more, lack_all, lack_one}
 

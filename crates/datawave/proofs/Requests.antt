@@ -11,7 +11,8 @@ use Rattle.dw_desk.specs.World.{World}
 use Rattle.dw_desk.specs.Step.{Outcome, step}
 use Rattle.dw_desk.specs.Desk.{may_want, Meets, Replies}
 use Rattle.datawave.specs.Lines.{kept}
-use Rattle.datawave.specs.Session.{Digest, Answers}
+use Rattle.dw_desk.specs.Session.{Digest, IsFault}
+use Rattle.datawave.specs.Exchange.{AnswersLine}
 
 -- a line that is too long is no request
 pub too_long : (bytes : List ℕ) → None ≡ kept bytes → Err Unbuilt ≡ read_line bytes
@@ -24,12 +25,12 @@ too_long bytes e = refused (nat_le (length bytes) max_line) bytes (option_and_th
 
 -- the text of a reply answers the line that the request was
 pub answers_from : (digest : Digest) (w next : World) (bytes : List ℕ) (request : Result Request Why) (reply : Reply) → request ≡ read_line bytes
-    → Replies digest w request reply next → Answers digest w bytes (reply_text reply) next
+    → Replies digest w request reply next → AnswersLine digest w bytes (reply_text reply) next
 answers_from digest w next bytes request reply e h =
     let P : Result Request Why → Type 0 = λ r. Replies digest w r reply next in
-    known (may_want (read_line bytes) (step digest w (read_line bytes)).reply) (step digest w (read_line bytes)) reply next w (subst P e h)
+    known (IsFault digest w (read_line bytes) (reply_text reply) next 0) 0 (may_want (read_line bytes) (step digest w (read_line bytes)).reply) (step digest w (read_line bytes)) reply next w (subst P e h)
   where
-    known : (wants : Bool) (out : Outcome) (reply : Reply) (next w : World) → Meets wants out w reply next
-        → ((reply_text reply ≡ reply_text out.reply) × (next ≡ out.world)) ⊎ ((reply_text reply ≡ reply_text OutOfMemory) × (next ≡ w))
-    known wants out reply next w (inl h) = inl (ap reply_text h.0, h.1)
-    known wants out reply next w (inr h) = inr (ap reply_text h.0, h.1)
+    known : (F : Type 0) (n : ℕ) (wants : Bool) (out : Outcome) (reply : Reply) (next w : World) → Meets wants out w reply next
+        → ((reply_text reply ≡ reply_text out.reply) × (next ≡ out.world) × (n ≡ n)) ⊎ (((reply_text reply ≡ reply_text OutOfMemory) × (next ≡ w) × (n ≡ n)) ⊎ F)
+    known F n wants out reply next w (inl h) = inl (ap reply_text h.0, h.1, refl)
+    known F n wants out reply next w (inr h) = inr (inl (ap reply_text h.0, h.1, refl))

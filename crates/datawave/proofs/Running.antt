@@ -1,5 +1,5 @@
 -- On a run as a whole: how it begins, goes on with each piece, and ends.
-use Rattle.std.proofs.Common.{◌≡◌, ◌≤◌, ◌+◌, ◌++◌, ◌∷◌, [], ℕ, Bool, true, false, cond, nat_le, List, Option, Some, None, length, take, refl, sym, ap, ◌∙◌, subst, append-nil, length-append, arith}
+use Rattle.std.proofs.Common.{◌≡◌, ◌≤◌, ◌+◌, ◌++◌, ◌∷◌, [], ℕ, Bool, true, false, cond, nat_le, List, Option, Some, None, length, take, refl, sym, ap, ◌∙◌, subst, inl, inr, append-nil, length-append, arith}
 use Rattle.std.proofs.Math.Seq.{take-append_seam}
 use Rattle.std.proofs.lemmas.Grind.{common_steps}
 use Rattle.std.specs.Io.KnownBytes.{prepend_known, IsAtEnd}
@@ -10,9 +10,10 @@ use Rattle.datawave.specs.Statuses.{status_of}
 use Rattle.datawave.specs.Lines.{kept, lines, last_line, whole_lines, whole_lines_after, rest_after}
 use Rattle.dw_wire.specs.ReadLine.{max_line}
 use Rattle.dw_desk.specs.World.{World, nothing}
-use Rattle.datawave.specs.Session.{Digest, AllAnswered, SomeAnswered, Exchanged, Runs, max_input}
+use Rattle.dw_desk.specs.Session.{Digest}
+use Rattle.datawave.specs.Session.{requests, AllAnswered, BrokeOff, Exchanged, Runs, max_input}
 use Rattle.datawave.specs.Exchange.{LinePut, LineLacks, LinesPut, LinesLack, Progress}
-use Rattle.datawave.proofs.Sessions.{put_none, put_then, put_one, lack_then, lack_more, lack_one, prepend_then, prepend_nothing, some_all, answered_none, known_nothing}
+use Rattle.datawave.proofs.Sessions.{put_none, put_then, put_one, lack_then, lack_one, prepend_then, prepend_nothing, some_all, answered_none, known_nothing}
 use Rattle.datawave.proofs.Feeds.{whole_then, rest_then}
 
 -- a run begins with nothing taken and nothing written
@@ -75,7 +76,7 @@ ends_done digest before left out0 out w line total p end most empty =
       written = p.lines.written;
       input = p.input;
       output = p.lines.output;
-      exchanged = (end, subst (λ (k : ℕ). k ≤ max_input) (sym p.count) most, (w, subst (λ (ls : List (List ℕ)). AllAnswered digest nothing ls p.lines.written w) all p.lines.answered));
+      exchanged = (end, subst (λ (k : ℕ). k ≤ max_input) (sym p.count) most, (w, subst (λ (ls : List (List ℕ)). AllAnswered digest nothing (requests ls) p.lines.written w 0) all p.lines.answered));
     }
 
 last_is : (rest : List ℕ) → (kept rest ≡ Some [] → ⊥) → last_line rest ≡ rest ∷ []
@@ -100,16 +101,16 @@ ends_last digest before left out0 out out' w next line total p end most some put
       exchanged = (end, subst (λ (k : ℕ). k ≤ max_input) (sym p.count) most, (next, puts.answered));
     }
 
-exchanged_broken : (digest : Digest) (b : Broken) (left : Option (List ℕ)) (taken written : List ℕ) → length taken ≤ max_input → SomeAnswered digest nothing (lines taken) written
+exchanged_broken : (digest : Digest) (b : Broken) (left : Option (List ℕ)) (taken written : List ℕ) → length taken ≤ max_input → BrokeOff digest left taken written
     → Exchanged digest (status_of b) left taken written
-exchanged_broken digest broken.WriteFault left taken written most some = (most, some)
-exchanged_broken digest broken.OutOfMemory left taken written most some = (most, some)
+exchanged_broken digest broken.WriteFault left taken written most off = (most, off)
+exchanged_broken digest broken.OutOfMemory left taken written most off = (most, off)
 
 -- the answer to the last line broke off
 pub ends_last_broken : (digest : Digest) (b : Broken) (before left out0 out out' : Option (List ℕ)) (w : World) (line : Option (List ℕ)) (total : ℕ)
-    → (p : Progress digest before left out0 out w line total) → total ≤ max_input → (line ≡ Some [] → ⊥)
+    → (p : Progress digest before left out0 out w line total) → IsAtEnd left → total ≤ max_input → (line ≡ Some [] → ⊥)
     → LineLacks digest w out (rest_after [] p.taken) out' → Runs digest (status_of b) before left out0 out'
-ends_last_broken digest b before left out0 out out' w line total p most some lacks =
+ends_last_broken digest b before left out0 out out' w line total p end most some lacks =
     let rest : List ℕ = rest_after [] p.taken in
     let last : last_line rest ≡ rest ∷ [] = last_is rest (λ e. some (p.partial ∙ e)) in
     let lack : LinesLack digest nothing out0 (lines p.taken) out' =
@@ -120,7 +121,7 @@ ends_last_broken digest b before left out0 out out' w line total p most some lac
       written = lack.written;
       input = p.input;
       output = lack.output;
-      exchanged = exchanged_broken digest b left p.taken lack.written (subst (λ (k : ℕ). k ≤ max_input) (sym p.count) most) lack.answered;
+      exchanged = exchanged_broken digest b left p.taken lack.written (subst (λ (k : ℕ). k ≤ max_input) (sym p.count) most) (inr (end, lack.answered));
     }
 
 -- the answers to a piece broke off
@@ -130,16 +131,15 @@ pub ends_piece_broken : (digest : Digest) (b : Broken) (before left after out0 o
 ends_piece_broken digest b before left after out0 out out' w line total n piece p took long most lacks =
     let taken : List ℕ = p.taken ++ piece in
     let count : length taken ≡ total + n = length-append p.taken piece ∙ ap (λ k. k + length piece) p.count ∙ ap (λ k. total + k) long in
-    let lack : LinesLack digest nothing out0 (lines taken) out' =
-    lack_more digest nothing out0 out' (whole_lines taken) (last_line (rest_after [] taken))
-    (subst (λ (ls : List (List ℕ)). LinesLack digest nothing out0 ls out') (sym (whole_then [] p.taken piece))
-    (lack_then digest nothing w out0 out out' (whole_lines p.taken) (whole_lines_after (rest_after [] p.taken) piece) p.lines lacks)) in
+    let lack : LinesLack digest nothing out0 (whole_lines taken) out' =
+    subst (λ (ls : List (List ℕ)). LinesLack digest nothing out0 ls out') (sym (whole_then [] p.taken piece))
+    (lack_then digest nothing w out0 out out' (whole_lines p.taken) (whole_lines_after (rest_after [] p.taken) piece) p.lines lacks) in
     record {
       taken = taken;
       written = lack.written;
       input = p.input ∙ ap (prepend_known p.taken) took ∙ prepend_then after p.taken piece;
       output = lack.output;
-      exchanged = exchanged_broken digest b after taken lack.written (subst (λ (k : ℕ). k ≤ max_input) (sym count) most) lack.answered;
+      exchanged = exchanged_broken digest b after taken lack.written (subst (λ (k : ℕ). k ≤ max_input) (sym count) most) (inl lack.answered);
     }
 
 -- one byte more than a run takes
@@ -156,7 +156,7 @@ ends_too_much digest before left after out0 out w line total n piece p took long
       output = p.lines.output;
       exchanged = (
         length-append p.taken piece ∙ ap (λ k. k + length piece) all ∙ ap (λ k. max_input + k) (long ∙ one),
-        (w, subst (λ (ls : List ℕ). AllAnswered digest nothing (whole_lines ls) p.lines.written w) front p.lines.answered),
+        (w, subst (λ (ls : List ℕ). AllAnswered digest nothing (requests (whole_lines ls)) p.lines.written w 0) front p.lines.answered),
       );
     }
 
@@ -170,7 +170,7 @@ ends_at_start digest left out = record {
   written = [];
   input = prepend_nothing left;
   output = known_nothing out;
-  exchanged = (omega arith, some_all digest nothing nothing [] [] (answered_none digest nothing));
+  exchanged = (omega arith, inl (some_all digest nothing nothing [] [] 0 (answered_none digest nothing)));
 }
 
 pub ends_bad_words : (digest : Digest) (left out : Option (List ℕ)) → Runs digest BadWords left left out out

@@ -1,79 +1,84 @@
--- On runs: what two stretches of lines come to together.
-use Rattle.std.proofs.Common.{◌≡◌, ◌++◌, ◌∷◌, [], ℕ, List, Option, Some, None, refl, sym, ap, ◌∙◌, subst, inl, inr, append_assoc, append-nil, take, drop, take-append-drop}
+-- On runs: what two stretches of requests come to together.
+use Rattle.std.proofs.Common.{◌≡◌, ◌+◌, ◌++◌, ◌∷◌, [], ℕ, List, Option, Some, None, refl, sym, ap, ◌∙◌, subst, inl, inr, append_assoc, append-nil, zero-add, add_assoc, take, drop, take-append-drop}
 use Rattle.std.specs.List.{concat}
 use Rattle.std.proofs.lemmas.List.Folds.{concat-append}
+use Rattle.std.proofs.lemmas.List.{map-append}
 use Rattle.std.specs.Io.KnownBytes.{append_known, prepend_known}
+use Rattle.dw_wire.specs.ReadLine.{read_line}
 use Rattle.dw_desk.specs.World.{World}
-use Rattle.datawave.specs.Session.{Digest, Answers, Session, AllAnswered, LastLacks, FrontAnswered, SomeAnswered}
-use Rattle.datawave.specs.Exchange.{LinePut, LineLacks, LinesPut, LinesLack, PartPut}
+use Rattle.dw_desk.specs.Session.{Digest, Asked, Answers, Session}
+use Rattle.datawave.specs.Session.{requests, AllAnswered, LastLacks, FrontAnswered, SomeAnswered}
+use Rattle.datawave.specs.Exchange.{AnswersLine, LinePut, LineLacks, LinesPut, LinesLack, PartPut}
 
-session_then : (digest : Digest) (w : World) (xs ts ys us : List (List ℕ)) (mid last : World)
-    → Session digest w xs ts mid → Session digest mid ys us last → Session digest w (xs ++ ys) (ts ++ us) last
-session_then digest w [] [] ys us mid last s t = subst (λ (v : World). Session digest v ys us last) s t
-session_then digest w [] (t ∷ ts) ys us mid last s r = absurd s
-session_then digest w (x ∷ xs) [] ys us mid last s r = absurd s
-session_then digest w (x ∷ xs) (t ∷ ts) ys us mid last s r = (s.0, s.1, session_then digest s.0 xs ts ys us mid last s.2 r)
+session_then : (digest : Digest) (w : World) (xs : List Asked) (ts : List (List ℕ)) (ys : List Asked) (us : List (List ℕ)) (mid last : World) (m n : ℕ)
+    → Session digest w xs ts mid m → Session digest mid ys us last n → Session digest w (xs ++ ys) (ts ++ us) last (m + n)
+session_then digest w [] [] ys us mid last m n s r =
+    subst (λ (k : ℕ). Session digest w ys us last k) (sym (zero-add n) ∙ ap (λ k. k + n) (sym s.1)) (subst (λ (v : World). Session digest v ys us last n) s.0 r)
+session_then digest w [] (t ∷ ts) ys us mid last m n s r = absurd s
+session_then digest w (x ∷ xs) [] ys us mid last m n s r = absurd s
+session_then digest w (x ∷ xs) (t ∷ ts) ys us mid last m n s r =
+    (s.0, s.1, s.2 + n, s.3, session_then digest s.0 xs ts ys us mid last s.2 n s.4 r, ap (λ k. k + n) s.5 ∙ add_assoc s.1 s.2 n)
 
--- the lines of one stretch, and then those of another
-pub answered_then : (digest : Digest) (w mid last : World) (xs ys : List (List ℕ)) (a b : List ℕ)
-    → AllAnswered digest w xs a mid → AllAnswered digest mid ys b last → AllAnswered digest w (xs ++ ys) (a ++ b) last
-answered_then digest w mid last xs ys a b x y = record {
+-- the requests of one stretch, and then those of another
+answered_then : (digest : Digest) (w mid last : World) (xs ys : List Asked) (a b : List ℕ) (m n : ℕ)
+    → AllAnswered digest w xs a mid m → AllAnswered digest mid ys b last n → AllAnswered digest w (xs ++ ys) (a ++ b) last (m + n)
+answered_then digest w mid last xs ys a b m n x y = record {
   texts = x.texts ++ y.texts;
-  session = session_then digest w xs x.texts ys y.texts mid last x.session y.session;
+  session = session_then digest w xs x.texts ys y.texts mid last m n x.session y.session;
   joined = ap (λ c. c ++ b) x.joined ∙ ap (λ c. concat x.texts ++ c) y.joined ∙ sym (concat-append x.texts y.texts);
 }
 
-lacks_then : (digest : Digest) (w mid : World) (xs ys : List (List ℕ)) (a b : List ℕ)
-    → AllAnswered digest w xs a mid → LastLacks digest mid ys b → LastLacks digest w (xs ++ ys) (a ++ b)
-lacks_then digest w mid xs ys a b x y = record {
+lacks_then : (digest : Digest) (w mid : World) (xs ys : List Asked) (a b : List ℕ) (m n : ℕ)
+    → AllAnswered digest w xs a mid m → LastLacks digest mid ys b n → LastLacks digest w (xs ++ ys) (a ++ b) (m + n)
+lacks_then digest w mid xs ys a b m n x y = record {
   texts = x.texts ++ y.texts;
   part = y.part;
   missing = y.missing;
   last = y.last;
-  session = subst (λ (ts : List (List ℕ)). Session digest w (xs ++ ys) ts y.last) (sym (append_assoc x.texts y.texts ((y.part ++ y.missing) ∷ [])))
-      (session_then digest w xs x.texts ys (y.texts ++ (y.part ++ y.missing) ∷ []) mid y.last x.session y.session);
+  session = subst (λ (ts : List (List ℕ)). Session digest w (xs ++ ys) ts y.last (m + n)) (sym (append_assoc x.texts y.texts ((y.part ++ y.missing) ∷ [])))
+      (session_then digest w xs x.texts ys (y.texts ++ (y.part ++ y.missing) ∷ []) mid y.last m n x.session y.session);
   joined = ap (λ c. c ++ b) x.joined ∙ ap (λ c. concat x.texts ++ c) y.joined ∙ sym (append_assoc (concat x.texts) (concat y.texts) y.part)
       ∙ ap (λ c. c ++ y.part) (sym (concat-append x.texts y.texts));
 }
 
-front_then : (digest : Digest) (w mid : World) (xs ys : List (List ℕ)) (a b : List ℕ)
-    → AllAnswered digest w xs a mid → FrontAnswered digest mid ys b → FrontAnswered digest w (xs ++ ys) (a ++ b)
-front_then digest w mid xs ys a b x (inl y) = inl (y.0, answered_then digest w mid y.0 xs ys a b x y.1)
-front_then digest w mid xs ys a b x (inr y) = inr (lacks_then digest w mid xs ys a b x y)
+front_then : (digest : Digest) (w mid : World) (xs ys : List Asked) (a b : List ℕ) (m n : ℕ)
+    → AllAnswered digest w xs a mid m → FrontAnswered digest mid ys b n → FrontAnswered digest w (xs ++ ys) (a ++ b) (m + n)
+front_then digest w mid xs ys a b m n x (inl y) = inl (y.0, answered_then digest w mid y.0 xs ys a b m n x y.1)
+front_then digest w mid xs ys a b m n x (inr y) = inr (lacks_then digest w mid xs ys a b m n x y)
 
-pub some_then : (digest : Digest) (w mid : World) (xs ys : List (List ℕ)) (a b : List ℕ)
-    → AllAnswered digest w xs a mid → SomeAnswered digest mid ys b → SomeAnswered digest w (xs ++ ys) (a ++ b)
-some_then digest w mid xs ys a b x y = record {
+some_then : (digest : Digest) (w mid : World) (xs ys : List Asked) (a b : List ℕ) (m n : ℕ)
+    → AllAnswered digest w xs a mid m → SomeAnswered digest mid ys b n → SomeAnswered digest w (xs ++ ys) (a ++ b) (m + n)
+some_then digest w mid xs ys a b m n x y = record {
   front = xs ++ y.front;
   rest = y.rest;
   split = ap (λ c. xs ++ c) y.split ∙ sym (append_assoc xs y.front y.rest);
-  answered = front_then digest w mid xs y.front a b x y.answered;
+  answered = front_then digest w mid xs y.front a b m n x y.answered;
 }
 
--- lines that follow and were not answered
-pub some_more : (digest : Digest) (w : World) (xs ys : List (List ℕ)) (a : List ℕ) → SomeAnswered digest w xs a → SomeAnswered digest w (xs ++ ys) a
-some_more digest w xs ys a x = record {
+-- requests that follow and were not answered
+some_more : (digest : Digest) (w : World) (xs ys : List Asked) (a : List ℕ) (m : ℕ) → SomeAnswered digest w xs a m → SomeAnswered digest w (xs ++ ys) a m
+some_more digest w xs ys a m x = record {
   front = x.front;
   rest = x.rest ++ ys;
   split = ap (λ c. c ++ ys) x.split ∙ append_assoc x.front x.rest ys;
   answered = x.answered;
 }
 
-pub some_all : (digest : Digest) (w last : World) (xs : List (List ℕ)) (a : List ℕ) → AllAnswered digest w xs a last → SomeAnswered digest w xs a
-some_all digest w last xs a x = record { front = xs; rest = []; split = sym (append-nil xs); answered = inl (last, x) }
+pub some_all : (digest : Digest) (w last : World) (xs : List Asked) (a : List ℕ) (m : ℕ) → AllAnswered digest w xs a last m → SomeAnswered digest w xs a m
+some_all digest w last xs a m x = record { front = xs; rest = []; split = sym (append-nil xs); answered = inl (last, x) }
 
-pub answered_none : (digest : Digest) (w : World) → AllAnswered digest w [] [] w
-answered_none digest w = record { texts = []; session = refl; joined = refl }
+pub answered_none : (digest : Digest) (w : World) → AllAnswered digest w [] [] w 0
+answered_none digest w = record { texts = []; session = (refl, refl); joined = refl }
 
-answered_one : (digest : Digest) (w next : World) (line text : List ℕ) → Answers digest w line text next → AllAnswered digest w (line ∷ []) text next
-answered_one digest w next line text h = record { texts = text ∷ []; session = (next, h, refl); joined = sym (append-nil text) }
+answered_one : (digest : Digest) (w next : World) (line text : List ℕ) → AnswersLine digest w line text next → AllAnswered digest w (requests (line ∷ [])) text next 0
+answered_one digest w next line text h = record { texts = text ∷ []; session = (next, 0, 0, h, (refl, refl), refl); joined = sym (append-nil text) }
 
-lacks_one : (digest : Digest) (w next : World) (line part missing : List ℕ) → Answers digest w line (part ++ missing) next → SomeAnswered digest w (line ∷ []) part
+lacks_one : (digest : Digest) (w next : World) (line part missing : List ℕ) → AnswersLine digest w line (part ++ missing) next → SomeAnswered digest w (requests (line ∷ [])) part 0
 lacks_one digest w next line part missing h = record {
-  front = line ∷ [];
+  front = requests (line ∷ []);
   rest = [];
   split = refl;
-  answered = inr (record { texts = []; part = part; missing = missing; last = next; session = (next, h, refl); joined = refl });
+  answered = inr (record { texts = []; part = part; missing = missing; last = next; session = (next, 0, 0, h, (refl, refl), refl); joined = refl });
 }
 
 pub known_nothing : (out : Option (List ℕ)) → out ≡ append_known out []
@@ -94,6 +99,10 @@ prepend_nothing (Some xs) = refl
 
 -- ---- the same with what the output holds
 
+-- what two stretches of lines ask for
+both_ask : (xs ys : List (List ℕ)) → requests xs ++ requests ys ≡ requests (xs ++ ys)
+both_ask xs ys = sym (map-append read_line xs ys)
+
 pub put_none : (digest : Digest) (w : World) (out : Option (List ℕ)) → LinesPut digest w out [] w out
 put_none digest w out = record { written = []; answered = answered_none digest w; output = known_nothing out }
 
@@ -101,7 +110,8 @@ pub put_then : (digest : Digest) (w mid last : World) (out between after : Optio
     → LinesPut digest w out xs mid between → LinesPut digest mid between ys last after → LinesPut digest w out (xs ++ ys) last after
 put_then digest w mid last out between after xs ys x y = record {
   written = x.written ++ y.written;
-  answered = answered_then digest w mid last xs ys x.written y.written x.answered y.answered;
+  answered = subst (λ (rs : List Asked). AllAnswered digest w rs (x.written ++ y.written) last 0) (both_ask xs ys)
+      (answered_then digest w mid last (requests xs) (requests ys) x.written y.written 0 0 x.answered y.answered);
   output = y.output ∙ ap (λ o. append_known o y.written) x.output ∙ known_then out x.written y.written;
 }
 
@@ -109,15 +119,20 @@ pub lack_then : (digest : Digest) (w mid : World) (out between after : Option (L
     → LinesPut digest w out xs mid between → LinesLack digest mid between ys after → LinesLack digest w out (xs ++ ys) after
 lack_then digest w mid out between after xs ys x y = record {
   written = x.written ++ y.written;
-  answered = some_then digest w mid xs ys x.written y.written x.answered y.answered;
+  answered = subst (λ (rs : List Asked). SomeAnswered digest w rs (x.written ++ y.written) 0) (both_ask xs ys)
+      (some_then digest w mid (requests xs) (requests ys) x.written y.written 0 0 x.answered y.answered);
   output = y.output ∙ ap (λ o. append_known o y.written) x.output ∙ known_then out x.written y.written;
 }
 
 pub lack_more : (digest : Digest) (w : World) (out after : Option (List ℕ)) (xs ys : List (List ℕ)) → LinesLack digest w out xs after → LinesLack digest w out (xs ++ ys) after
-lack_more digest w out after xs ys x = record { written = x.written; answered = some_more digest w xs ys x.written x.answered; output = x.output }
+lack_more digest w out after xs ys x = record {
+  written = x.written;
+  answered = subst (λ (rs : List Asked). SomeAnswered digest w rs x.written 0) (both_ask xs ys) (some_more digest w (requests xs) (requests ys) x.written 0 x.answered);
+  output = x.output;
+}
 
 pub lack_all : (digest : Digest) (w last : World) (out after : Option (List ℕ)) (xs : List (List ℕ)) → LinesPut digest w out xs last after → LinesLack digest w out xs after
-lack_all digest w last out after xs x = record { written = x.written; answered = some_all digest w last xs x.written x.answered; output = x.output }
+lack_all digest w last out after xs x = record { written = x.written; answered = some_all digest w last (requests xs) x.written 0 x.answered; output = x.output }
 
 pub put_one : (digest : Digest) (w next : World) (out after : Option (List ℕ)) (line : List ℕ) → LinePut digest w out line next after → LinesPut digest w out (line ∷ []) next after
 put_one digest w next out after line x = record { written = x.text; answered = answered_one digest w next line x.text x.answers; output = x.output }

@@ -2,13 +2,19 @@
 use Rattle.std.specs.Prelude.{◌≡◌, ℕ, Option, List, [], ◌++◌, length}
 use Rattle.std.specs.Io.KnownBytes.{append_known, prepend_known}
 use Rattle.datawave.specs.Lines.{kept, whole_lines, rest_after}
+use Rattle.dw_wire.specs.ReadLine.{read_line}
 use Rattle.dw_desk.specs.World.{World, nothing}
-use Rattle.datawave.specs.Session.{Digest, Answers, AllAnswered, SomeAnswered}
+use Rattle.dw_desk.specs.Session.{Digest, Answers}
+use Rattle.datawave.specs.Session.{requests, AllAnswered, SomeAnswered}
+
+-- the text answers the line, and leaves this world; no store fails
+abbrev pub AnswersLine : Digest → World → List ℕ → List ℕ → World → Type 0
+AnswersLine digest w line text next = Answers digest w (read_line line) text next 0
 
 -- a line was answered, and its text was put
 pub record LinePut (digest : Digest) (w : World) (out : Option (List ℕ)) (line : List ℕ) (next : World) (after : Option (List ℕ)) : Type 0 where
   pub text : List ℕ
-  pub answers : Answers digest w line text next
+  pub answers : AnswersLine digest w line text next
   pub output : after ≡ append_known out text
 
 -- a line was answered, and a part of its text was put
@@ -16,19 +22,19 @@ pub record LineLacks (digest : Digest) (w : World) (out : Option (List ℕ)) (li
   pub part : List ℕ
   pub missing : List ℕ
   pub next : World
-  pub answers : Answers digest w line (part ++ missing) next
+  pub answers : AnswersLine digest w line (part ++ missing) next
   pub output : after ≡ append_known out part
 
 -- lines were answered, and their texts were put
 pub record LinesPut (digest : Digest) (w : World) (out : Option (List ℕ)) (ls : List (List ℕ)) (next : World) (after : Option (List ℕ)) : Type 0 where
   pub written : List ℕ
-  pub answered : AllAnswered digest w ls written next
+  pub answered : AllAnswered digest w (requests ls) written next 0
   pub output : after ≡ append_known out written
 
 -- some of the lines were answered, and what was put lacks at most an end of the last text
 pub record LinesLack (digest : Digest) (w : World) (out : Option (List ℕ)) (ls : List (List ℕ)) (after : Option (List ℕ)) : Type 0 where
   pub written : List ℕ
-  pub answered : SomeAnswered digest w ls written
+  pub answered : SomeAnswered digest w (requests ls) written 0
   pub output : after ≡ append_known out written
 
 -- a part of a text was put

@@ -4,4 +4,3 @@ pub mod Session
 pub mod Exchange
 pub mod Texts
 pub mod Statuses
-pub mod Laws

@@ -6,8 +6,7 @@ ghost use Rattle.dw_wire.specs.ReadLine.{read_line as request_on};
 ghost use Rattle.dw_wire.specs.ReplyText.{reply_text};
 ghost use Rattle.dw_desk.specs.Desk.{world_of};
 ghost use Rattle.dw_wire.specs.Requests.{IsCounted, IsRuled};
-ghost use Rattle.datawave.specs.Session.{Answers};
-ghost use Rattle.datawave.specs.Exchange.{LinePut, LineLacks, LinesPut, LinesLack, PartPut};
+ghost use Rattle.datawave.specs.Exchange.{AnswersLine, LinePut, LineLacks, LinesPut, LinesLack, PartPut};
 ghost use Rattle.datawave.specs.Texts.{text_of};
 
 use crate::line::Line;
@@ -74,8 +73,8 @@ fn answer_line<U: UidMaker>(
     uids: &U,
     line: &Line,
 ) -> Result<Text, OutOfMemory>
-    ensures text { IfOk result (λ text. (bytes : List ℕ) → line.now ≡ kept bytes → Answers U.digest (world_of desk.old) bytes (text_of text) (world_of desk.new)) }
-    ensures err { OnErr result ((bytes : List ℕ) → line.now ≡ kept bytes → (text : List ℕ) × Answers U.digest (world_of desk.old) bytes text (world_of desk.new)) }
+    ensures text { IfOk result (λ text. (bytes : List ℕ) → line.now ≡ kept bytes → AnswersLine U.digest (world_of desk.old) bytes (text_of text) (world_of desk.new)) }
+    ensures err { OnErr result ((bytes : List ℕ) → line.now ≡ kept bytes → (text : List ℕ) × AnswersLine U.digest (world_of desk.old) bytes text (world_of desk.new)) }
 {
     let request = match request_of(alloc, line) {
         Ok(request) => request,

@@ -2,7 +2,7 @@
 //! found by queries.
 #![tactic(auto)]
 
-ghost use Rattle.std.specs.Prelude.{◌≡◌, ◌↔◌, false};
+ghost use Rattle.std.specs.Prelude.{◌≡◌, ◌≢◌, ◌↔◌, false, IfErr};
 ghost use Rattle.dw_outside.specs.Faults.{Rose};
 ghost use Rattle.datawave.specs.Session.{Runs};
 ghost use Rattle.datawave.specs.Words.{is_exec};
@@ -10,7 +10,6 @@ ghost use Rattle.datawave.specs.Words.{is_exec};
 mod command;
 mod exchange;
 mod exec;
-mod laws;
 mod line;
 mod status;
 
@@ -52,7 +51,9 @@ pub fn run<S: Source, O: Sink, U: UidMaker>(
 
 /// The words after the program's name, or how the run ends where there are none to be had. A word that
 /// is not UTF-8 is no word of a command.
-fn words_of(rt: &HostRuntime) -> Result<Vec<Text>, Status> {
+fn words_of(rt: &HostRuntime) -> Result<Vec<Text>, Status>
+    ensures { IfErr result (λ status. status ≢ Status.Done) }
+{
     let args = match env::args(rt) {
         Ok(args) => args,
         Err(error) => return Err(fault_of(error.kind())),
@@ -66,7 +67,10 @@ fn words_of(rt: &HostRuntime) -> Result<Vec<Text>, Status> {
     Ok(words)
 }
 
-fn fault_of(kind: ErrorKind) -> Status {
+/// How the run ends where the words are not to be had.
+fn fault_of(kind: ErrorKind) -> Status
+    ensures { result ≢ Status.Done }
+{
     match kind {
         ErrorKind::OutOfMemory => Status::OutOfMemory,
         _ => Status::BadWords,

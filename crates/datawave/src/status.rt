@@ -1,4 +1,4 @@
-ghost use Rattle.std.specs.Prelude.{◌≡◌, ◌↔◌};
+ghost use Rattle.std.specs.Prelude.{◌≡◌};
 
 /// How a run ends.
 #[derive(Clone, Copy, Debug, PartialEq, Eq)]
@@ -18,9 +18,11 @@ pub enum Status {
 }
 
 impl Status {
+    ghost use Rattle.datawave.specs.Statuses.{exit_code};
+
     /// The status with which the process exits.
     pub fn code(self) -> u8
-        ensures { (result ≡ 0) ↔ (self ≡ Status.Done) }
+        ensures { result ≡ exit_code self }
     {
         match self {
             Status::Done => 0,

@@ -38,7 +38,7 @@ equal_is Less e = cc
 equal_is Equal e = refl
 equal_is Greater e = cc
 
-same_name : (a b : List ℕ) → is_name a b ≡ true → a ≡ b
+pub same_name : (a b : List ℕ) → is_name a b ≡ true → a ≡ b
 same_name a b e = exact_bytes a b (equal_is (slice_cmp nat_cmp a b) e)
 
 is_some_from : (o : Option Caller) (c : Caller) → o ≡ Some c → IsSome o

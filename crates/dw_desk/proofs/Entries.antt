@@ -31,7 +31,7 @@ equal_is Less e = cc
 equal_is Equal e = refl
 equal_is Greater e = cc
 
-same_number : (a b : ℕ) → is_at (nat_cmp a) b ≡ true → a ≡ b
+pub same_number : (a b : ℕ) → is_at (nat_cmp a) b ≡ true → a ≡ b
 same_number a b e = exact_unsigned a b (equal_is (nat_cmp a b) e)
 
 -- nothing is dropped where there is nothing

@@ -33,7 +33,8 @@ use Rattle.dw_desk.specs.World.{Event, World}
 use Rattle.dw_desk.specs.Take.{Taken, none_taken, with_held, with_record, with_records, held_at}
 use Rattle.dw_desk.specs.Answer.{page_items, page_start}
 use Rattle.dw_desk.specs.Step.{Outcome, step, asked_for, defined, ingested, created, paged, dropped, query_of}
-use Rattle.dw_desk.specs.Laws.{Ascends, pages, StepsAscend, PagesAreTheAnswer}
+use Rattle.dw_desk.specs.Session.{Digest, Asked}
+use Rattle.dw_desk.specs.Laws.{Ascends, pages, PagesAreTheAnswer}
 
 places_total : IsTotalOrder place_cmp
 places_total = search (comparing, rules)
@@ -79,9 +80,6 @@ held_sorted : (batch : ℕ) (place : Place) (rec : Record) (t : Taken) (h : Opti
 held_sorted batch place rec t None s = insert_sorted place (record { cells = rec.cells; batch = batch }) t.events s
 held_sorted batch place rec t (Some held) s = cond_sorted (cells_eq held.cells rec.cells) _ _ s s
 
-abbrev Digest : Type 0
-Digest = List ℕ → List ℕ
-
 record_sorted : (digest : Digest) (batch : ℕ) (t : Taken) (rec : Result Record BadRecord) → Sorted t.events → Sorted (with_record digest batch t rec).events
 unfolding with_record
 record_sorted digest batch t (Err rule) s = s
@@ -116,7 +114,7 @@ drop_ascends : (w : World) (caller : List ℕ) (number : ℕ) (o : Option OpenQu
 drop_ascends w caller number None s = s
 drop_ascends w caller number (Some q) s = s
 
-pub steps_ascend : StepsAscend
+pub steps_ascend : (digest : Digest) (w : World) (request : Asked) → Ascends w → Ascends (step digest w request).world
 unfolding step
 steps_ascend digest w (Err why) s = s
 steps_ascend digest w (Ok (Define field rule)) s = define_ascends w field rule s

@@ -5,3 +5,6 @@ pub mod DeskLemmas
 pub mod Seeing
 pub mod Paging
 pub mod LawLemmas
+pub mod Keeping
+pub mod Staying
+pub mod Telling

@@ -1,5 +1,5 @@
 -- On taking records in.
-use Rattle.std.proofs.Common.{◌≡◌, ◌+◌, ◌++◌, ◌∷◌, [], ℕ, Bool, true, false, ◌&&◌, ◌≤◌, nat_lt, cond, lt_of_lt_of_le, List, Option, Some, None, Ok, refl, sym, ap, ◌∙◌, arith, IsTrue}
+use Rattle.std.proofs.Common.{◌≡◌, ◌+◌, ◌++◌, ◌∷◌, [], ℕ, Bool, true, false, ◌&&◌, ◌≤◌, nat_lt, cond, lt_of_lt_of_le, List, filter, Option, Some, None, Ok, refl, sym, ap, ◌∙◌, arith, IsTrue}
 use Rattle.std.specs.declared.cmp.Ordering.{Ordering}
 use Rattle.std.specs.declared.cmp.Ordering.TheVariants.{Less, Equal, Greater}
 use Rattle.std.specs.Map.{lookup}
@@ -75,20 +75,25 @@ record_other digest batch t rec place h p e f = sym (other_is batch place rec t 
 not_below : (n : ℕ) → nat_lt n n ≡ false
 not_below n = grind (arith, common_steps)
 
-insert_at : (o : Ordering) (b : ℕ) (place : Place) (held : Held) (e : Event) (es more : List Event) → held.batch ≡ b
+filter_at : (p : Event → Bool) (o : Ordering) (place : Place) (held : Held) (e : Event) (es more : List Event) → p (place, held) ≡ false
     → cond (is_eq o) (Some e.1) (lookup (is_at (place_cmp place)) es) ≡ None
-    → (lookup (is_at (place_cmp place)) es ≡ None → events_before b more ≡ events_before b es)
-    → events_before b (match_ordering o ((place, held) ∷ e ∷ es) ((e.0, held) ∷ es) (e ∷ more)) ≡ events_before b (e ∷ es)
-insert_at Less b place held e es more at none h = rw (at, not_below b) refl
-insert_at Equal b place held e es more at none h = cc
-insert_at Greater b place held e es more at none h = ap (λ ys. cond (nat_lt e.1.batch b) (e ∷ ys) ys) (h none)
+    → (lookup (is_at (place_cmp place)) es ≡ None → filter p more ≡ filter p es)
+    → filter p (match_ordering o ((place, held) ∷ e ∷ es) ((e.0, held) ∷ es) (e ∷ more)) ≡ filter p (e ∷ es)
+filter_at p Less place held e es more out none h = ap (λ b. cond b ((place, held) ∷ filter p (e ∷ es)) (filter p (e ∷ es))) out
+filter_at p Equal place held e es more out none h = cc
+filter_at p Greater place held e es more out none h = ap (λ ys. cond (p e) (e ∷ ys) ys) (h none)
+
+-- an event at a free place is none of those that a filter keeps, where it is not kept itself
+pub filter_insert : (p : Event → Bool) (es : List Event) (place : Place) (held : Held) → p (place, held) ≡ false → held_at es place ≡ None
+    → filter p (insert_entry place_cmp es place held) ≡ filter p es
+filter_insert p [] place held out none = ap (λ b. cond b ((place, held) ∷ []) []) out
+filter_insert p (e ∷ es) place held out none =
+    filter_at p (place_cmp place e.0) place held e es (insert_entry place_cmp es place held) out none (filter_insert p es place held out)
 
 -- an event of the batch is none of the earlier ones
 pub before_insert : (b : ℕ) (es : List Event) (place : Place) (held : Held) → held.batch ≡ b → held_at es place ≡ None
     → events_before b (insert_entry place_cmp es place held) ≡ events_before b es
-before_insert b [] place held at none = rw (at, not_below b) refl
-before_insert b (e ∷ es) place held at none =
-    insert_at (place_cmp place e.0) b place held e es (insert_entry place_cmp es place held) at none (before_insert b es place held at)
+before_insert b es place held at none = filter_insert (λ (e : Event). nat_lt e.1.batch b) es place held (rw (at) (not_below b)) none
 
 -- ---- the events of this batch and earlier ones
 

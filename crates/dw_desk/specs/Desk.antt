@@ -8,7 +8,7 @@ use Rattle.dw_event.specs.declared.records.Place.{Place}
 use Rattle.dw_wire.specs.declared.request.Request.{Request}
 use Rattle.dw_wire.specs.declared.request.Why.{Why}
 use Rattle.dw_wire.specs.declared.reply.Reply.{Reply}
-use Rattle.dw_wire.specs.declared.reply.Reply.TheVariants.{Defined, Granted, Ingested, Created, Paged, Closed, Malformed, NotOwned, NotEmpty, Unanchored, Spent, OutOfMemory}
+use Rattle.dw_wire.specs.declared.reply.Reply.TheVariants.{Defined, Granted, Ingested, Created, Paged, Closed, Malformed, NotOwned, NotEmpty, Unanchored, Spent, StoreFault, OutOfMemory}
 use Rattle.dw_wire.specs.declared.request.Request.TheVariants.{Define, Grant, Ingest, Create, Page, Close}
 use Rattle.dw_desk.specs.declared.desk.Held.{Held}
 use Rattle.dw_desk.specs.declared.desk.Desk.{Desk}
@@ -70,6 +70,7 @@ is_owned NotOwned = false
 is_owned NotEmpty = true
 is_owned Unanchored = true
 is_owned Spent = true
+is_owned StoreFault = true
 is_owned OutOfMemory = true
 
 -- a request that may want memory, by the reply to it: a malformed line and a close want none, nor does a page of a

@@ -7,5 +7,6 @@ pub mod Answer
 pub mod Step
 pub mod Batches
 pub mod Standing
+pub mod Session
 pub mod Desk
 pub mod Laws

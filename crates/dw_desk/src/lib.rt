@@ -13,6 +13,9 @@ mod take;
 
 pub use desk::{Desk, Held};
 pub use dw_wire::{Query, Records, Reply, Request, Why};
-pub use laws::{pages_are_the_answer, steps_ascend};
+pub use laws::{
+    pages_are_the_answer, sessions_keep, sessions_keep_queries, sessions_tell, steps_keep,
+    steps_keep_queries, steps_tell,
+};
 pub use open_query::{BoundQuery, OpenQuery};
 pub use std::alloc::AllocError as OutOfMemory;

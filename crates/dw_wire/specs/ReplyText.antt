@@ -8,7 +8,7 @@ use Rattle.dw_event.specs.declared.views.Pair.{Pair}
 use Rattle.dw_wire.specs.declared.request.Why.{Why}
 use Rattle.dw_wire.specs.declared.request.Why.TheVariants.{Unbuilt, Literal}
 use Rattle.dw_wire.specs.declared.reply.Reply.{Reply}
-use Rattle.dw_wire.specs.declared.reply.Reply.TheVariants.{Defined, Granted, Ingested, Created, Paged, Closed, Malformed, NotOwned, NotEmpty, Unanchored, Spent, OutOfMemory}
+use Rattle.dw_wire.specs.declared.reply.Reply.TheVariants.{Defined, Granted, Ingested, Created, Paged, Closed, Malformed, NotOwned, NotEmpty, Unanchored, Spent, StoreFault, OutOfMemory}
 use Rattle.dw_event.specs.declared.reports.Bad.{Bad}
 use Rattle.dw_event.specs.declared.reports.BadReason.{BadReason}
 use Rattle.dw_event.specs.declared.reports.BadReason.TheVariants.{Rule, Clash}
@@ -98,6 +98,7 @@ reply_data NotOwned = error_data (codes "notOwned")
 reply_data NotEmpty = error_data (codes "notEmpty")
 reply_data Unanchored = error_data (codes "unanchored")
 reply_data Spent = error_data (codes "spent")
+reply_data StoreFault = error_data (codes "storeFault")
 reply_data OutOfMemory = error_data (codes "outOfMemory")
 
 -- the text of a reply, with its line feed

@@ -24,6 +24,8 @@ pub enum Reply {
     Unanchored,
     /// No number is left to give.
     Spent,
+    /// The store failed; nothing changed.
+    StoreFault,
     /// Want of memory; nothing changed.
     OutOfMemory,
 }

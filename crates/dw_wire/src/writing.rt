@@ -53,6 +53,7 @@ fn put_reply(alloc: Global, out: &mut Writer, reply: &Reply) -> Result<(), OutOf
         Reply::NotEmpty => put_error(out, "notEmpty"),
         Reply::Unanchored => put_error(out, "unanchored"),
         Reply::Spent => put_error(out, "spent"),
+        Reply::StoreFault => put_error(out, "storeFault"),
         Reply::OutOfMemory => put_error(out, "outOfMemory"),
     }
 }

@@ -1,6 +1,6 @@
 use Rattle.std.proofs.Common.{[], ◌∙◌, sym, subst, List, ℕ}
 use Rattle.dw_desk.specs.Desk.{world_of}
-use Rattle.datawave.specs.Session.{Answers}
+use Rattle.datawave.specs.Exchange.{AnswersLine}
 use Rattle.datawave.proofs.Sessions.{known_nothing}
 use Rattle.datawave.proofs.exchange.exchange_line.Goals as goal
 
@@ -18,7 +18,7 @@ returns-in-Err-clause-lacks g c bytes e =
 pub returns-clause-lacks : goal.returns-clause-lacks
 returns-clause-lacks g c bytes e =
     let put = c.in-Err-put_all.ensures.part in
-    let P : List ℕ → Type 0 = λ text. Answers g.U.UidMaker.digest (world_of c.args.desk.now) bytes text (world_of c.answer_line.new.desk) in
+    let P : List ℕ → Type 0 = λ text. AnswersLine g.U.UidMaker.digest (world_of c.args.desk.now) bytes text (world_of c.answer_line.new.desk) in
     record {
       part = put.part;
       missing = put.missing;

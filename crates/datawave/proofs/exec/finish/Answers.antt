@@ -22,6 +22,6 @@ pub returns-in-Err-clause-runs : goal.returns-in-Err-clause-runs
 returns-in-Err-clause-runs g c before left out end most p =
     let talk = c.args.talk.now in
     subst (λ (s : Status). Runs g.U.UidMaker.digest s before left out (g.O.Sink.taken c.exchange_line.new.output)) (sym c.end_of.ensures)
-    (ends_last_broken g.U.UidMaker.digest c.in-Err.broken before left out (g.O.Sink.taken c.args.output.now) (g.O.Sink.taken c.exchange_line.new.output) (world_of talk.desk) talk.line talk.total p most
+    (ends_last_broken g.U.UidMaker.digest c.in-Err.broken before left out (g.O.Sink.taken c.args.output.now) (g.O.Sink.taken c.exchange_line.new.output) (world_of talk.desk) talk.line talk.total p end most
     (λ e. let full : c.is_empty.result ≡ true = c.is_empty.ensures.1 e in cc)
     (c.in-Err.ensures.lacks (rest_after [] p.taken) p.partial))

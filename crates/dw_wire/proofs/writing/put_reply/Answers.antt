@@ -8,3 +8,6 @@ returns-in-OutOfMemory c = rw c.in-OutOfMemory.is c.put_error-in-OutOfMemory.ens
 
 pub returns-in-NotEmpty : goal.returns-in-NotEmpty
 returns-in-NotEmpty c = rw c.in-NotEmpty.is c.put_error-in-NotEmpty.ensures
+
+pub returns-in-StoreFault : goal.returns-in-StoreFault
+returns-in-StoreFault c = rw c.in-StoreFault.is c.put_error-in-StoreFault.ensures
