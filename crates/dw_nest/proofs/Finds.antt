@@ -4,11 +4,10 @@ use Rattle.std.specs.Prelude.{slice_get, Contains, map}
 use Rattle.std.proofs.lemmas.List.{take_all}
 use Rattle.dw_key.specs.declared.doc_key.DocKey.{DocKey}
 use Rattle.dw_nest.specs.declared.bound.Bound.{Bound}
-use Rattle.dw_nest.specs.declared.spot.Spot.{Spot}
 use Rattle.dw_nest.specs.declared.bound.Top.{Top}
 use Rattle.dw_nest.specs.declared.bound.Top.TheVariants.{Key, Missing}
 use Rattle.dw_nest.specs.Bounds.{meets, rest, IfTopKey}
-use Rattle.dw_nest.specs.Leaves.{Chosen, spot_meets, top_of_spot}
+use Rattle.dw_nest.specs.Leaves.{Spot, Chosen, spot_meets, top_of_spot}
 
 module _ {A : Type 0} (p : A → Bool) where
   pub find_here : (xs : List A) (i : ℕ) (x : A) → i < length xs → find p (take i xs) ≡ None → x ≡ slice_index_or xs i x → p x ≡ true → find p xs ≡ Some x
@@ -49,28 +48,28 @@ module _ {A : Type 0} (p : A → Bool) where
       go false m r = r m
 
 -- where the first spot that meets the bound is known, its key is the first of each choice
-pub spot_first : (bound : Bound) (spots : List Spot) (all : List DocKey) (spot : Spot) → Chosen spots all → find (spot_meets bound) spots ≡ Some spot → spot.known ≡ true → slice_get (rest all bound) 0 ≡ Some spot.key
+pub spot_first : (bound : Bound) (spots : List Spot) (all : List DocKey) (spot : Spot) → Chosen spots all → find (spot_meets bound) spots ≡ Some spot → spot.1 ≡ true → slice_get (rest all bound) 0 ≡ Some spot.0
 spot_first bound [] all spot c e k = absurd (cc)
-spot_first bound (s ∷ ss) all spot (inl (others, is, c)) e k = subst (λ (a : List DocKey). slice_get (rest a bound) 0 ≡ Some spot.key) (sym is) (go (meets bound s.key) e (λ m. spot_first bound ss others spot c m k))
+spot_first bound (s ∷ ss) all spot (inl (others, is, c)) e k = subst (λ (a : List DocKey). slice_get (rest a bound) 0 ≡ Some spot.0) (sym is) (go (meets bound s.0) e (λ m. spot_first bound ss others spot c m k))
   where
-    go : (b : Bool) → cond b (Some s) (find (spot_meets bound) ss) ≡ Some spot → (find (spot_meets bound) ss ≡ Some spot → slice_get (rest others bound) 0 ≡ Some spot.key) → slice_get (cond b (s.key ∷ rest others bound) (rest others bound)) 0 ≡ Some spot.key
-    go true m r = let same : s ≡ spot = cc in ap (λ (x : Spot). Some x.key) same
+    go : (b : Bool) → cond b (Some s) (find (spot_meets bound) ss) ≡ Some spot → (find (spot_meets bound) ss ≡ Some spot → slice_get (rest others bound) 0 ≡ Some spot.0) → slice_get (cond b (s.0 ∷ rest others bound) (rest others bound)) 0 ≡ Some spot.0
+    go true m r = let same : s ≡ spot = cc in ap (λ (x : Spot). Some x.0) same
     go false m r = r m
-spot_first bound (s ∷ ss) all spot (inr (unknown, c)) e k = go (meets bound s.key) e (λ m. spot_first bound ss all spot c m k)
+spot_first bound (s ∷ ss) all spot (inr (unknown, c)) e k = go (meets bound s.0) e (λ m. spot_first bound ss all spot c m k)
   where
-    go : (b : Bool) → cond b (Some s) (find (spot_meets bound) ss) ≡ Some spot → (find (spot_meets bound) ss ≡ Some spot → slice_get (rest all bound) 0 ≡ Some spot.key) → slice_get (rest all bound) 0 ≡ Some spot.key
-    go true m r = absurd (let same : s ≡ spot = cc in let known : s.known ≡ true = ap (λ (x : Spot). x.known) same ∙ k in cc)
+    go : (b : Bool) → cond b (Some s) (find (spot_meets bound) ss) ≡ Some spot → (find (spot_meets bound) ss ≡ Some spot → slice_get (rest all bound) 0 ≡ Some spot.0) → slice_get (rest all bound) 0 ≡ Some spot.0
+    go true m r = absurd (let same : s ≡ spot = cc in let known : s.1 ≡ true = ap (λ (x : Spot). x.1) same ∙ k in cc)
     go false m r = r m
 
 -- where no spot meets the bound, no key of a choice does
 pub spot_none : (bound : Bound) (spots : List Spot) (all : List DocKey) → Chosen spots all → find (spot_meets bound) spots ≡ None → rest all bound ≡ []
 spot_none bound [] all c e = ap (λ (a : List DocKey). rest a bound) c
-spot_none bound (s ∷ ss) all (inl (others, is, c)) e = subst (λ (a : List DocKey). rest a bound ≡ []) (sym is) (go (meets bound s.key) e (λ m. spot_none bound ss others c m))
+spot_none bound (s ∷ ss) all (inl (others, is, c)) e = subst (λ (a : List DocKey). rest a bound ≡ []) (sym is) (go (meets bound s.0) e (λ m. spot_none bound ss others c m))
   where
-    go : (b : Bool) → cond b (Some s) (find (spot_meets bound) ss) ≡ None → (find (spot_meets bound) ss ≡ None → rest others bound ≡ []) → cond b (s.key ∷ rest others bound) (rest others bound) ≡ []
+    go : (b : Bool) → cond b (Some s) (find (spot_meets bound) ss) ≡ None → (find (spot_meets bound) ss ≡ None → rest others bound ≡ []) → cond b (s.0 ∷ rest others bound) (rest others bound) ≡ []
     go true m r = absurd (cc)
     go false m r = r m
-spot_none bound (s ∷ ss) all (inr (unknown, c)) e = go (meets bound s.key) e (λ m. spot_none bound ss all c m)
+spot_none bound (s ∷ ss) all (inr (unknown, c)) e = go (meets bound s.0) e (λ m. spot_none bound ss all c m)
   where
     go : (b : Bool) → cond b (Some s) (find (spot_meets bound) ss) ≡ None → (find (spot_meets bound) ss ≡ None → rest all bound ≡ []) → rest all bound ≡ []
     go true m r = absurd (cc)
@@ -85,18 +84,18 @@ found_in p (y ∷ ys) x e = go (p y) refl e (λ m. found_in p ys x m)
     go true t m r = let same : y ≡ x = cc in ((0, omega arith, same), subst (λ z. p z ≡ true) same t)
     go false t m r = let h = r m in ((suc h.0.0, omega (arith, h.0.1), h.0.2), h.1)
 
-pub spot_in : (bound : Bound) (spots : List Spot) (spot : Spot) → find (spot_meets bound) spots ≡ Some spot → Contains (map (λ (s : Spot). s.key) spots) spot.key × (meets bound spot.key ≡ true)
+pub spot_in : (bound : Bound) (spots : List Spot) (spot : Spot) → find (spot_meets bound) spots ≡ Some spot → Contains (map (λ (s : Spot). s.0) spots) spot.0 × (meets bound spot.0 ≡ true)
 spot_in bound [] spot e = absurd (cc)
-spot_in bound (s ∷ ss) spot e = go (meets bound s.key) refl e (λ m. spot_in bound ss spot m)
+spot_in bound (s ∷ ss) spot e = go (meets bound s.0) refl e (λ m. spot_in bound ss spot m)
   where
-    go : (b : Bool) → meets bound s.key ≡ b → cond b (Some s) (find (spot_meets bound) ss) ≡ Some spot → (find (spot_meets bound) ss ≡ Some spot → Contains (map (λ (x : Spot). x.key) ss) spot.key × (meets bound spot.key ≡ true)) → Contains (s.key ∷ map (λ (x : Spot). x.key) ss) spot.key × (meets bound spot.key ≡ true)
-    go true t m r = let same : s ≡ spot = cc in ((0, omega arith, ap (λ (x : Spot). x.key) same), subst (λ (z : Spot). meets bound z.key ≡ true) same t)
+    go : (b : Bool) → meets bound s.0 ≡ b → cond b (Some s) (find (spot_meets bound) ss) ≡ Some spot → (find (spot_meets bound) ss ≡ Some spot → Contains (map (λ (x : Spot). x.0) ss) spot.0 × (meets bound spot.0 ≡ true)) → Contains (s.0 ∷ map (λ (x : Spot). x.0) ss) spot.0 × (meets bound spot.0 ≡ true)
+    go true t m r = let same : s ≡ spot = cc in ((0, omega arith, ap (λ (x : Spot). x.0) same), subst (λ (z : Spot). meets bound z.0 ≡ true) same t)
     go false t m r = let h = r m in ((suc h.0.0, omega (arith, h.0.1), h.0.2), h.1)
 
 -- a fact of the key at a spot, where the spot is known
-pub at_spot : (spot : Spot) (top : Top) (Fact : DocKey → Type 0) → top ≡ top_of_spot (Some spot) → (spot.known ≡ true → Fact spot.key) → IfTopKey top Fact
-at_spot spot top Fact e h = subst (λ (t : Top). IfTopKey t Fact) (sym e) (go spot.known h)
+pub at_spot : (spot : Spot) (top : Top) (Fact : DocKey → Type 0) → top ≡ top_of_spot (Some spot) → (spot.1 ≡ true → Fact spot.0) → IfTopKey top Fact
+at_spot spot top Fact e h = subst (λ (t : Top). IfTopKey t Fact) (sym e) (go spot.1 h)
   where
-    go : (b : Bool) → (b ≡ true → Fact spot.key) → IfTopKey (cond b (Key spot.key) Missing) Fact
+    go : (b : Bool) → (b ≡ true → Fact spot.0) → IfTopKey (cond b (Key spot.0) Missing) Fact
     go true k = k refl
     go false k = tt

@@ -40,13 +40,13 @@ enumerable-alike R (or m a) (or n b) h Positive = all_same m (λ i. is_enumerabl
 enumerable-alike R (or m a) (or n b) h Negative = any_same m (λ i. is_enumerable Negative (a i)) (λ i. is_enumerable Negative (b i)) (λ i l. enumerable-alike R (a i) (b i) (h.1 i l) Negative) ∙ ap (λ c. any_of c (λ i. is_enumerable Negative (b i))) h.0
 enumerable-alike R _ _ h place = absurd h
 
-pub held-alike : {L : Type 0} (stands : L → List DocKey → Type 0) (keys : L → List DocKey) (a b : Shape L) (k : DocKey) → Alike (Stays stands keys) a b → Held keys b k → Held keys a k
-held-alike stands keys (leaf x) (leaf y) k h t = subst (λ ks. Contains ks k) h.1 t
-held-alike stands keys unknown unknown k h t = t
-held-alike stands keys (opposite a) (opposite b) k h t = held-alike stands keys a b k h t
-held-alike stands keys (and m a) (and n b) k h t = (t.0, omega (arith, h.0, t.1), held-alike stands keys (a t.0) (b t.0) k (h.1 t.0 (omega (arith, h.0, t.1))) t.2)
-held-alike stands keys (or m a) (or n b) k h t = (t.0, omega (arith, h.0, t.1), held-alike stands keys (a t.0) (b t.0) k (h.1 t.0 (omega (arith, h.0, t.1))) t.2)
-held-alike stands keys _ _ k h t = absurd h
+pub held-alike : {L M : Type 0} (stands : L → List DocKey → Type 0) (keys : L → List DocKey) (made : L → M) (a b : Shape L) (k : DocKey) → Alike (Stays stands keys made) a b → Held keys b k → Held keys a k
+held-alike stands keys made (leaf x) (leaf y) k h t = subst (λ ks. Contains ks k) h.1 t
+held-alike stands keys made unknown unknown k h t = t
+held-alike stands keys made (opposite a) (opposite b) k h t = held-alike stands keys made a b k h t
+held-alike stands keys made (and m a) (and n b) k h t = (t.0, omega (arith, h.0, t.1), held-alike stands keys made (a t.0) (b t.0) k (h.1 t.0 (omega (arith, h.0, t.1))) t.2)
+held-alike stands keys made (or m a) (or n b) k h t = (t.0, omega (arith, h.0, t.1), held-alike stands keys made (a t.0) (b t.0) k (h.1 t.0 (omega (arith, h.0, t.1))) t.2)
+held-alike stands keys made _ _ k h t = absurd h
 
 -- a fact by cases of a test
 pub decide : {G : Type 0} (b : Bool) → (b ≡ true → G) → (b ≡ false → G) → G
@@ -60,12 +60,12 @@ sooner_missing (Key k) Missing h n = refl
 sooner_missing End b h n = h
 sooner_missing Missing b h n = absurd (n refl)
 
-module _ {L : Type 0} (stands : L → List DocKey → Type 0) (keys : L → List DocKey) (place : Place) (before now : List (Tree L)) (kept : Alike (Stays stands keys) (and (length before) (shapes before)) (and (length now) (shapes now))) where
+module _ {L M : Type 0} (stands : L → List DocKey → Type 0) (keys : L → List DocKey) (made : L → M) (place : Place) (before now : List (Tree L)) (kept : Alike (Stays stands keys made) (and (length before) (shapes before)) (and (length now) (shapes now))) where
   pub fits_on : (lists : ℕ → Shape (List DocKey)) → ChildrenStand stands before lists → ChildrenStand stands now lists
-  fits_on lists f i h = stands_on stands keys (shapes before i) (shapes now i) (lists i) (kept.1 i (omega (arith, kept.0))) (f i (omega (arith, kept.0)))
+  fits_on lists f i h = stands_on stands keys made (shapes before i) (shapes now i) (lists i) (kept.1 i (omega (arith, kept.0))) (f i (omega (arith, kept.0)))
 
   pub held_back : (k : DocKey) → Held keys (and (length now) (shapes now)) k → Held keys (and (length before) (shapes before)) k
-  held_back k t = held-alike stands keys (and (length before) (shapes before)) (and (length now) (shapes now)) k kept t
+  held_back k t = held-alike stands keys made (and (length before) (shapes before)) (and (length now) (shapes now)) k kept t
 
   pub pass_same : (lists : ℕ → Shape (List DocKey)) (k : DocKey) → children_pass All place (length before) lists k ≡ children_pass All place (length now) lists k
   pass_same lists k = ap (λ n. all_of n (λ i. passes place (value (lists i) k))) kept.0
@@ -73,7 +73,7 @@ module _ {L : Type 0} (stands : L → List DocKey → Type 0) (keys : L → List
   pub others_back : (key : DocKey)
       → ((lists : ℕ → Shape (List DocKey)) → ChildrenStand stands now lists → (i : ℕ) → i < length now → is_enumerable place (shapes now i) ≡ false → passes place (value (lists i) key) ≡ true)
       → (lists : ℕ → Shape (List DocKey)) → ChildrenStand stands before lists → (i : ℕ) → i < length before → is_enumerable place (shapes before i) ≡ false → passes place (value (lists i) key) ≡ true
-  others_back key h lists f i l e = h lists (fits_on lists f) i (omega (arith, kept.0)) (sym (enumerable-alike (Stays stands keys) (shapes before i) (shapes now i) (kept.1 i l) place) ∙ e)
+  others_back key h lists f i l e = h lists (fits_on lists f) i (omega (arith, kept.0)) (sym (enumerable-alike (Stays stands keys made) (shapes before i) (shapes now i) (kept.1 i l) place) ∙ e)
 
   pub fails_back : (key : DocKey)
       → ((lists : ℕ → Shape (List DocKey)) → ChildrenStand stands now lists → children_pass All place (length now) lists key ≡ false)
@@ -83,7 +83,7 @@ module _ {L : Type 0} (stands : L → List DocKey → Type 0) (keys : L → List
   -- some child can be enumerated, so a round does not come to nothing
   pub not_nowhere : any_of (length before) (λ i. is_enumerable place (shapes before i)) ≡ true → ((i : ℕ) → i < length now → is_enumerable place (shapes now i) ≡ false) → ⊥
   not_nowhere some none =
-      let e = any_false (length before) (λ i. is_enumerable place (shapes before i)) (λ i l. enumerable-alike (Stays stands keys) (shapes before i) (shapes now i) (kept.1 i l) place ∙ none i (omega (arith, kept.0))) in cc
+      let e = any_false (length before) (λ i. is_enumerable place (shapes before i)) (λ i l. enumerable-alike (Stays stands keys made) (shapes before i) (shapes now i) (kept.1 i l) place ∙ none i (omega (arith, kept.0))) in cc
 
   module _ (bound at : Bound) (onward : (k : DocKey) → meets at k ≡ true → meets bound k ≡ true)
       (none : (lists : ℕ → Shape (List DocKey)) → ChildrenStand stands before lists → (other : DocKey) → meets bound other ≡ true → meets at other ≡ false → children_pass All place (length before) lists other ≡ false) where

@@ -5,21 +5,11 @@ use Rattle.std.proofs.lemmas.List.{get_or-map, length-map, length-set, get_or-se
 use Rattle.std.specs.Vec.{with_items}
 use Rattle.std.specs.declared.boxed.Box.{Box}
 use Rattle.dw_nest.specs.declared.tree.Tree.{Tree}
-use Rattle.dw_nest.specs.declared.tree.Tree.TheVariants.{rolls-Not, rolls-And, rolls-Or}
 use Rattle.dw_nest.specs.declared.tree.Tree.TheViews.{Not, And, Or}
-use Rattle.dw_nest.specs.declared.tree.Tree.TheFolds.{fold-roll-Tree}
-use Rattle.dw_nest.specs.Shapes.{Shape, unknown, opposite, and, or, shape, shape_step, shapes}
+use Rattle.dw_nest.specs.Shapes.{unknown, opposite, and, or, shape, shapes}
+use Rattle.dw_nest.specs.Parts.{shape_not, shape_and, shape_or}
 
 module _ {L : Type 0} where
-  pub shape_not : (child : Box (Tree L) Global) → shape (Not child) ≡ opposite (shape child.value)
-  shape_not child = ap shape (sym (rolls-Not child)) ∙ fold-roll-Tree L (Shape L) shape_step _
-
-  pub shape_and : (children : Vec (Tree L) Global) → shape (And children) ≡ and (length children.items) (shapes children.items)
-  shape_and children = ap shape (sym (rolls-And children)) ∙ fold-roll-Tree L (Shape L) shape_step _ ∙ ap (λ n. and n (shapes children.items)) (length-map children.items shape)
-
-  pub shape_or : (children : Vec (Tree L) Global) → shape (Or children) ≡ or (length children.items) (shapes children.items)
-  shape_or children = ap shape (sym (rolls-Or children)) ∙ fold-roll-Tree L (Shape L) shape_step _ ∙ ap (λ n. or n (shapes children.items)) (length-map children.items shape)
-
   pub shapes_at : (children : List (Tree L)) (i : ℕ) (x : Tree L) → i < length children → shapes children i ≡ shape (slice_index_or children i x)
   shapes_at children i x h = get_or-map shape children i x unknown h
 

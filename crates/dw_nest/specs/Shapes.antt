@@ -86,6 +86,6 @@ leaves (or count child) = joined count (λ i. leaves (child i))
 abbrev pub shapes : {L : Type 0} → List (Tree L) → ℕ → Shape L
 shapes children i = slice_index_or (map shape children) i unknown
 
--- two leaves that stand for the same lists, and show their keys out of one list
-abbrev pub Stays : {L : Type 0} → (L → List DocKey → Type 0) → (L → List DocKey) → L → L → Type 0
-Stays stands keys old new = ((all : List DocKey) → stands new all ↔ stands old all) × (keys new ≡ keys old)
+-- two leaves that stand for the same lists, show their keys out of one list, and were made from the same
+abbrev pub Stays : {L M : Type 0} → (L → List DocKey → Type 0) → (L → List DocKey) → (L → M) → L → L → Type 0
+Stays stands keys made old new = ((all : List DocKey) → stands new all ↔ stands old all) × (keys new ≡ keys old) × (made new ≡ made old)

@@ -1,4 +1,4 @@
-ghost use Rattle.std.specs.Prelude.{◌≡◌, ◌↔◌, List, [], Bool, IsTrue, slice_get, Contains};
+ghost use Rattle.std.specs.Prelude.{◌≡◌, ◌↔◌, List, [], ℕ, Bool, IsTrue, slice_get, Contains};
 ghost use Rattle.dw_key.specs.declared.doc_key.DocKey.{DocKey};
 ghost use Rattle.dw_nest.specs.declared.bound.Bound.{Bound};
 ghost use Rattle.dw_nest.specs.declared.bound.Top.{Top};
@@ -25,11 +25,15 @@ pub trait DocIter {
     /// later than the one before, a search over iterators ends.
     ghost keys: { Self → List DocKey };
 
+    /// The texts that it was made from, such as its field and its value, which no call changes.
+    ghost made: { Self → List (List ℕ) };
+
     /// Goes to the bound, from wherever it stands.
     fn seek(&mut self, bound: &Bound)
         ensures at { at self.new ≡ bound.now }
         ensures same { (all : List DocKey) → stands self.new all ↔ stands self.old all }
-        ensures keys { keys self.new ≡ keys self.old };
+        ensures keys { keys self.new ≡ keys self.old }
+        ensures made { made self.new ≡ made self.old };
 
     fn top(&self) -> Top
         ensures shown { result ≡ shown self.now }
@@ -45,5 +49,6 @@ pub trait DocIter {
         requires { IsTopKey (shown self.old) }
         ensures at { IfTopKey (shown self.old) (λ k. at self.new ≡ Bound.After k) }
         ensures same { (all : List DocKey) → stands self.new all ↔ stands self.old all }
-        ensures keys { keys self.new ≡ keys self.old };
+        ensures keys { keys self.new ≡ keys self.old }
+        ensures made { made self.new ≡ made self.old };
 }

@@ -2,21 +2,19 @@
 #![tactic(auto)]
 
 mod bound;
+#[cfg(test)]
+mod known_keys;
 mod leaf;
 mod leap;
-mod listed;
-mod partial;
+#[cfg(test)]
+mod partly_known_keys;
 mod place;
 mod search;
-mod spot;
 mod tree;
 mod truth;
 
 pub use bound::{Bound, Found, Top};
 pub use leaf::DocIter;
-pub use listed::Listed;
-pub use partial::Partial;
-pub use spot::Spot;
 pub use tree::Tree;
 pub use truth::Truth;
 

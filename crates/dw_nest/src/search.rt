@@ -1,4 +1,4 @@
-ghost use Rattle.std.specs.Prelude.{◌≡◌, ◌≢◌, ◌<◌, ◌↔◌, ℕ, true, false, IsTrue, IfSome, List, length, Contains};
+ghost use Rattle.std.specs.Prelude.{◌≡◌, ◌≢◌, ◌<◌, ◌↔◌, ℕ, true, false, IsTrue, IfSome, List, length, map, Contains};
 ghost use Rattle.std.specs.List.{list_any};
 ghost use Rattle.dw_key.specs.declared.doc_key.DocKey.{DocKey};
 ghost use Rattle.dw_nest.specs.declared.truth.Truth.{Truth};
@@ -21,6 +21,7 @@ fn leaf_least<L: DocIter>(leaf: &mut L, bound: &Bound) -> Found
     ensures missing { result ≡ Found.Missing → IsTrue (L.stuck leaf.new) }
     ensures same { (all : List DocKey) → L.stands leaf.new all ↔ L.stands leaf.old all }
     ensures keys { L.keys leaf.new ≡ L.keys leaf.old }
+    ensures made { L.made leaf.new ≡ L.made leaf.old }
 {
     leaf.seek(bound);
     match leaf.top() {
@@ -39,7 +40,8 @@ impl<L: DocIter + Drop> Tree<L> {
         ensures least { IfFound result (λ key. (lists : Shape (List DocKey)) → Alike L.stands (shape self.old) lists → (other : DocKey) → IsTrue (meets bound.now other) → IsTrue (is_before other key) → value lists other ≡ Truth.No) }
         ensures end { result ≡ Found.End → (lists : Shape (List DocKey)) → Alike L.stands (shape self.old) lists → (other : DocKey) → IsTrue (meets bound.now other) → value lists other ≡ Truth.No }
         ensures missing { result ≡ Found.Missing → IsTrue (list_any L.stuck (leaves (shape self.new))) }
-        ensures stays { Alike (Stays L.stands L.keys) (shape self.old) (shape self.new) }
+        ensures stays { Alike (Stays L.stands L.keys L.made) (shape self.old) (shape self.new) }
+        ensures made { map L.made (leaves (shape self.new)) ≡ map L.made (leaves (shape self.old)) }
     {
         self.least_at(Place::Positive, bound)
     }
@@ -49,7 +51,7 @@ impl<L: DocIter + Drop> Tree<L> {
         requires { IsTrue (is_enumerable place (shape self.old)) }
         ensures found { IsLeast (Alike L.stands (shape self.old)) (λ lists key. passes place (value lists key)) (Held L.keys (shape self.old)) bound.now result }
         ensures missing { result ≡ Found.Missing → IsTrue (list_any L.stuck (leaves (shape self.new))) }
-        ensures stays { Alike (Stays L.stands L.keys) (shape self.old) (shape self.new) }
+        ensures stays { Alike (Stays L.stands L.keys L.made) (shape self.old) (shape self.new) }
     {
         match mem::replace(self, Tree::Unknown) {
             Tree::Leaf(mut leaf) => {
@@ -87,7 +89,7 @@ fn least_among<L: DocIter + Drop>(
     requires { IsTrue (enough_enumerable need (length children.old) (λ i. is_enumerable place (shapes children.old i))) }
     ensures found { IsLeast (ChildrenStand L.stands children.old) (children_pass need place (length children.old)) (Held L.keys (and (length children.old) (shapes children.old))) bound.now result }
     ensures missing { result ≡ Found.Missing → IsTrue (list_any L.stuck (leaves (and (length children.new) (shapes children.new)))) }
-    ensures stays { Alike (Stays L.stands L.keys) (and (length children.old) (shapes children.old)) (and (length children.new) (shapes children.new)) }
+    ensures stays { Alike (Stays L.stands L.keys L.made) (and (length children.old) (shapes children.old)) (and (length children.new) (shapes children.new)) }
 {
     match need {
         Need::All => least_of_all(children, place, bound),
@@ -101,7 +103,7 @@ fn least_of_any<L: DocIter + Drop>(children: &mut [Tree<L>], place: Place, bound
     requires { IsTrue (all_of (length children.old) (λ i. is_enumerable place (shapes children.old i))) }
     ensures found { IsLeast (ChildrenStand L.stands children.old) (children_pass Need.Any place (length children.old)) (Held L.keys (and (length children.old) (shapes children.old))) bound.now result }
     ensures missing { result ≡ Found.Missing → IsTrue (list_any L.stuck (leaves (and (length children.new) (shapes children.new)))) }
-    ensures stays { Alike (Stays L.stands L.keys) (and (length children.old) (shapes children.old)) (and (length children.new) (shapes children.new)) }
+    ensures stays { Alike (Stays L.stands L.keys L.made) (and (length children.old) (shapes children.old)) (and (length children.new) (shapes children.new)) }
 {
     let mut least = Found::End;
     for child in children.iter_mut() {
@@ -119,7 +121,7 @@ fn least_of_all<L: DocIter + Drop>(children: &mut [Tree<L>], place: Place, bound
     requires { IsTrue (any_of (length children.old) (λ i. is_enumerable place (shapes children.old i))) }
     ensures found { IsLeast (ChildrenStand L.stands children.old) (children_pass Need.All place (length children.old)) (Held L.keys (and (length children.old) (shapes children.old))) bound.now result }
     ensures missing { result ≡ Found.Missing → IsTrue (list_any L.stuck (leaves (and (length children.new) (shapes children.new)))) }
-    ensures stays { Alike (Stays L.stands L.keys) (and (length children.old) (shapes children.old)) (and (length children.new) (shapes children.new)) }
+    ensures stays { Alike (Stays L.stands L.keys L.made) (and (length children.old) (shapes children.old)) (and (length children.new) (shapes children.new)) }
 {
     let mut at = *bound;
     loop {
@@ -142,7 +144,7 @@ fn least_of_all<L: DocIter + Drop>(children: &mut [Tree<L>], place: Place, bound
 fn leap<L: DocIter + Drop>(children: &mut [Tree<L>], place: Place, bound: &Bound) -> Leap
     ensures leap { IsLeap L.stands L.keys place children.old (length children.old) bound.now result }
     ensures missing { result ≡ Leap.Unknown → IsTrue (list_any L.stuck (leaves (and (length children.new) (shapes children.new)))) }
-    ensures stays { Alike (Stays L.stands L.keys) (and (length children.old) (shapes children.old)) (and (length children.new) (shapes children.new)) }
+    ensures stays { Alike (Stays L.stands L.keys L.made) (and (length children.old) (shapes children.old)) (and (length children.new) (shapes children.new)) }
 {
     let mut leap = Leap::Nowhere;
     for child in children.iter_mut() {
@@ -159,7 +161,7 @@ fn reach<L: DocIter + Drop>(child: &mut Tree<L>, place: Place, leap: &Leap, boun
     ensures passed_over { is_enumerable place (shape child.old) ≡ false → result ≡ leap.now }
     ensures reached { is_enumerable place (shape child.old) ≡ true → (found : Found) × (result ≡ leap_after leap.now found) × IsLeast (Alike L.stands (shape child.old)) (λ lists key. passes place (value lists key)) (Held L.keys (shape child.old)) (leap_bound leap.now bound.now) found }
     ensures missing { is_over leap.now ≡ false → result ≡ Leap.Unknown → IsTrue (list_any L.stuck (leaves (shape child.new))) }
-    ensures stays { Alike (Stays L.stands L.keys) (shape child.old) (shape child.new) }
+    ensures stays { Alike (Stays L.stands L.keys L.made) (shape child.old) (shape child.new) }
 {
     if !child.enumerable_at(place) {
         return *leap;
@@ -176,7 +178,7 @@ fn others_pass<L: DocIter + Drop>(
     ensures all { result ≡ Some true → (lists : ℕ → Shape (List DocKey)) → ChildrenStand L.stands children.old lists → (i : ℕ) → i < length children.old → is_enumerable place (shapes children.old i) ≡ false → passes place (value (lists i) key.now) ≡ true }
     ensures not_all { result ≡ Some false → (lists : ℕ → Shape (List DocKey)) → ChildrenStand L.stands children.old lists → children_pass Need.All place (length children.old) lists key.now ≡ false }
     ensures none { result ≡ None → IsTrue (list_any L.stuck (leaves (and (length children.new) (shapes children.new)))) }
-    ensures stays { Alike (Stays L.stands L.keys) (and (length children.old) (shapes children.old)) (and (length children.new) (shapes children.new)) }
+    ensures stays { Alike (Stays L.stands L.keys L.made) (and (length children.old) (shapes children.old)) (and (length children.new) (shapes children.new)) }
 {
     for child in children.iter_mut() {
         match other_passes(child, place, key) {
@@ -192,7 +194,7 @@ fn other_passes<L: DocIter + Drop>(child: &mut Tree<L>, place: Place, key: &DocK
     ensures enumerated { is_enumerable place (shape child.old) ≡ true → result ≡ Some true }
     ensures other { is_enumerable place (shape child.old) ≡ false → IfSome result (λ passing. (lists : Shape (List DocKey)) → Alike L.stands (shape child.old) lists → passing ≡ passes place (value lists key.now)) }
     ensures none { result ≡ None → IsTrue (list_any L.stuck (leaves (shape child.new))) }
-    ensures stays { Alike (Stays L.stands L.keys) (shape child.old) (shape child.new) }
+    ensures stays { Alike (Stays L.stands L.keys L.made) (shape child.old) (shape child.new) }
 {
     if child.enumerable_at(place) {
         return Some(true);

@@ -1,4 +1,6 @@
 use super::*;
+use crate::known_keys::KnownKeys;
+use crate::partly_known_keys::{PartlyKnownKeys, Spot};
 use dw_key::{DType, DocKey};
 use std::alloc::{AllocError, Global};
 use std::process::Abort;
@@ -30,11 +32,11 @@ const HAS: [[bool; KEYS]; LEAVES] = [
 fn build<'a>(
     alloc: Global,
     plan: &Plan<'_>,
-    leaves: &[Partial<'a>],
-) -> Result<Tree<Partial<'a>>, AllocError> {
+    leaves: &[PartlyKnownKeys<'a>],
+) -> Result<Tree<PartlyKnownKeys<'a>>, AllocError> {
     Ok(match plan {
         Plan::Leaf(i) => match leaves.get(*i) {
-            Some(leaf) => Tree::Leaf(Partial {
+            Some(leaf) => Tree::Leaf(PartlyKnownKeys {
                 spots: leaf.spots,
                 bound: Bound::Start,
             }),
@@ -106,7 +108,7 @@ fn key(n: usize) -> Option<DocKey> {
 
 fn check_least(
     rt: &impl Abort,
-    tree: &mut Tree<Partial<'_>>,
+    tree: &mut Tree<PartlyKnownKeys<'_>>,
     plan: &Plan<'_>,
     keys: &[DocKey],
     bound: &Bound,
@@ -132,7 +134,7 @@ fn check_least(
 
 fn check_truth(
     rt: &impl Abort,
-    tree: &mut Tree<Partial<'_>>,
+    tree: &mut Tree<PartlyKnownKeys<'_>>,
     plan: &Plan<'_>,
     key: &DocKey,
     place: usize,
@@ -153,7 +155,7 @@ fn check_tree(
     rt: &impl Abort,
     alloc: Global,
     plan: &Plan<'_>,
-    leaves: &[Partial<'_>],
+    leaves: &[PartlyKnownKeys<'_>],
     keys: &[DocKey],
     knows: bool,
 ) -> Result<(), AllocError> {
@@ -189,10 +191,7 @@ fn spots(
     let mut spots = Vec::new(alloc);
     for (i, key) in keys.iter().enumerate() {
         if leaf < LEAVES && i < KEYS && HAS[leaf][i] {
-            spots.push(Spot {
-                key: *key,
-                known: knows || leaf != 2 || i != 3,
-            })?;
+            spots.push((*key, knows || leaf != 2 || i != 3))?;
         }
     }
     Ok(spots)
@@ -208,15 +207,15 @@ fn check_all(
     let second = spots(alloc, 1, keys, knows)?;
     let third = spots(alloc, 2, keys, knows)?;
     let leaves = [
-        Partial {
+        PartlyKnownKeys {
             spots: first.as_slice(),
             bound: Bound::Start,
         },
-        Partial {
+        PartlyKnownKeys {
             spots: second.as_slice(),
             bound: Bound::Start,
         },
-        Partial {
+        PartlyKnownKeys {
             spots: third.as_slice(),
             bound: Bound::Start,
         },
@@ -274,6 +273,8 @@ impl<L: DocIter> DocIter for Counted<L> {
 
     ghost keys = { λ s. L.keys s.inner };
 
+    ghost made = { λ s. L.made s.inner };
+
     fn seek(&mut self, bound: &Bound) {
         self.seeks = self.seeks.saturating_add(1);
         self.inner.seek(bound);
@@ -324,9 +325,9 @@ fn candidates<L: DocIter + Drop>(tree: &mut Tree<L>) -> usize {
     50
 }
 
-fn make_counted(keys: &[DocKey]) -> Tree<Counted<Listed<'_>>> {
+fn make_counted(keys: &[DocKey]) -> Tree<Counted<KnownKeys<'_>>> {
     Tree::Leaf(Counted {
-        inner: Listed {
+        inner: KnownKeys {
             keys,
             bound: Bound::Start,
         },
@@ -408,43 +409,37 @@ fn an_iterator_walks_its_list_and_stops_where_it_does_not_know(
         key(3).ok_or("a type")?,
         key(9).ok_or("a type")?,
     ];
-    let mut listed = Listed {
+    let mut known = KnownKeys {
         keys: &keys,
         bound: Bound::Start,
     };
     for want in &keys {
-        match listed.top() {
+        match known.top() {
             Top::Key(key) => {
                 assert!(rt; key == *want);
-                listed.next();
+                known.next();
             }
             _ => assert!(rt; false),
         }
     }
-    assert!(rt; matches!(listed.top(), Top::End));
+    assert!(rt; matches!(known.top(), Top::End));
     let spots = [
-        Spot {
-            key: key(1).ok_or("a type")?,
-            known: true,
-        },
-        Spot {
-            key: key(4).ok_or("a type")?,
-            known: false,
-        },
+        (key(1).ok_or("a type")?, true),
+        (key(4).ok_or("a type")?, false),
     ];
-    let mut partial = Partial {
+    let mut partly = PartlyKnownKeys {
         spots: &spots,
         bound: Bound::Start,
     };
-    match partial.top() {
+    match partly.top() {
         Top::Key(found) => {
-            assert!(rt; found == spots[0].key);
-            partial.next();
+            assert!(rt; found == spots[0].0);
+            partly.next();
         }
         _ => assert!(rt; false),
     }
-    assert!(rt; matches!(partial.top(), Top::Missing));
-    partial.seek(&Bound::After(spots[1].key));
-    assert!(rt; matches!(partial.top(), Top::End));
+    assert!(rt; matches!(partly.top(), Top::Missing));
+    partly.seek(&Bound::After(spots[1].0));
+    assert!(rt; matches!(partly.top(), Top::End));
     Ok(())
 }

@@ -1,4 +1,4 @@
-ghost use Rattle.std.specs.Prelude.{◌≡◌, ◌↔◌, IfSome, IfNone, IsTrue, List, length, find};
+ghost use Rattle.std.specs.Prelude.{◌≡◌, ◌↔◌, IfSome, IfNone, IsTrue, List, length, find, map};
 ghost use Rattle.std.specs.List.{list_any};
 ghost use Rattle.std.specs.Option.{option_copied};
 ghost use Rattle.dw_key.specs.declared.doc_key.DocKey.{DocKey};
@@ -81,6 +81,7 @@ fn leaf_truth<L: DocIter>(leaf: &mut L, key: &DocKey) -> Option<Truth>
     ensures none { IfNone result (IsTrue (L.stuck leaf.new)) }
     ensures same { (all : List DocKey) → L.stands leaf.new all ↔ L.stands leaf.old all }
     ensures keys { L.keys leaf.new ≡ L.keys leaf.old }
+    ensures made { L.made leaf.new ≡ L.made leaf.old }
 {
     leaf.seek(&Bound::From(*key));
     match leaf.top() {
@@ -105,11 +106,20 @@ fn opposite(truth: Option<Truth>) -> Option<Truth>
 
 impl<L: DocIter + Drop> Tree<L> {
     /// The value at a key, or None where a leaf does not know.
-    #[cycle(truth)]
     pub fn truth_at(&mut self, key: &DocKey) -> Option<Truth>
         ensures value { IfSome result (λ truth. (lists : Shape (List DocKey)) → Alike L.stands (shape self.old) lists → truth ≡ value lists key.now) }
         ensures none { IfNone result (IsTrue (list_any L.stuck (leaves (shape self.new)))) }
-        ensures stays { Alike (Stays L.stands L.keys) (shape self.old) (shape self.new) }
+        ensures stays { Alike (Stays L.stands L.keys L.made) (shape self.old) (shape self.new) }
+        ensures made { map L.made (leaves (shape self.new)) ≡ map L.made (leaves (shape self.old)) }
+    {
+        self.value_at(key)
+    }
+
+    #[cycle(truth)]
+    fn value_at(&mut self, key: &DocKey) -> Option<Truth>
+        ensures value { IfSome result (λ truth. (lists : Shape (List DocKey)) → Alike L.stands (shape self.old) lists → truth ≡ value lists key.now) }
+        ensures none { IfNone result (IsTrue (list_any L.stuck (leaves (shape self.new)))) }
+        ensures stays { Alike (Stays L.stands L.keys L.made) (shape self.old) (shape self.new) }
     {
         match mem::replace(self, Tree::Unknown) {
             Tree::Leaf(mut leaf) => {
@@ -119,7 +129,7 @@ impl<L: DocIter + Drop> Tree<L> {
             }
             Tree::Unknown => Some(Truth::Unknown),
             Tree::Not(mut child) => {
-                let truth = child.truth_at(key);
+                let truth = child.value_at(key);
                 *self = Tree::Not(child);
                 opposite(truth)
             }
@@ -141,11 +151,11 @@ impl<L: DocIter + Drop> Tree<L> {
 fn least_truth<L: DocIter + Drop>(children: &mut [Tree<L>], key: &DocKey) -> Option<Truth>
     ensures value { IfSome result (λ truth. (lists : Shape (List DocKey)) → Alike L.stands (and (length children.old) (shapes children.old)) lists → truth ≡ value lists key.now) }
     ensures none { IfNone result (IsTrue (list_any L.stuck (leaves (and (length children.new) (shapes children.new))))) }
-    ensures stays { Alike (Stays L.stands L.keys) (and (length children.old) (shapes children.old)) (and (length children.new) (shapes children.new)) }
+    ensures stays { Alike (Stays L.stands L.keys L.made) (and (length children.old) (shapes children.old)) (and (length children.new) (shapes children.new)) }
 {
     let mut least = Truth::Yes;
     for child in children.iter_mut() {
-        match child.truth_at(key) {
+        match child.value_at(key) {
             Some(truth) => least = least.lower(truth),
             None => return None,
         }
@@ -157,11 +167,11 @@ fn least_truth<L: DocIter + Drop>(children: &mut [Tree<L>], key: &DocKey) -> Opt
 fn most_truth<L: DocIter + Drop>(children: &mut [Tree<L>], key: &DocKey) -> Option<Truth>
     ensures value { IfSome result (λ truth. (lists : Shape (List DocKey)) → Alike L.stands (or (length children.old) (shapes children.old)) lists → truth ≡ value lists key.now) }
     ensures none { IfNone result (IsTrue (list_any L.stuck (leaves (or (length children.new) (shapes children.new))))) }
-    ensures stays { Alike (Stays L.stands L.keys) (or (length children.old) (shapes children.old)) (or (length children.new) (shapes children.new)) }
+    ensures stays { Alike (Stays L.stands L.keys L.made) (or (length children.old) (shapes children.old)) (or (length children.new) (shapes children.new)) }
 {
     let mut most = Truth::No;
     for child in children.iter_mut() {
-        match child.truth_at(key) {
+        match child.value_at(key) {
             Some(truth) => most = most.higher(truth),
             None => return None,
         }

@@ -218,12 +218,26 @@ impl Claims {
         ensures once { IfOk result (λ lists. EachOnce self.jobs (flat_map (λ l. l.numbers) lists.items)) }
         ensures back { IfErr result (λ unclosed. (unclosed.claims ≡ self) × (unclosed.passes ≡ passes)) }
     {
-        let Ok(mut lists) = Vec::with_capacity(self.alloc, passes.len()) else {
+        let Ok(lists) = Vec::with_capacity(self.alloc, passes.len()) else {
             return Err(Unclosed {
                 claims: self,
                 passes,
             });
         };
+        Ok(self.close_into(passes, lists))
+    }
+
+    /// Closes in room that was taken before, and takes no memory.
+    pub(crate) fn close_into(self, passes: Vec<Pass>, lists: Vec<Claimed>) -> Vec<Claimed>
+        requires all { vec_len passes ≡ self.passes }
+        requires mine { All (λ p. p.counter ≡ self) passes.items }
+        requires told { All (λ p. IsSome p.kept) passes.items }
+        requires empty { lists.items ≡ [] }
+        requires room { vec_len passes ≤ vec_capacity lists }
+        ensures lists { result.items ≡ map claimed_by passes.items }
+        ensures once { EachOnce self.jobs (flat_map (λ l. l.numbers) result.items) }
+    {
+        let mut lists = lists;
         let Claims {
             table,
             deal: _,
@@ -231,6 +245,6 @@ impl Claims {
         } = self;
         let whole = gather(&table.shared, &mut lists, passes);
         settle(table, whole.unwrap());
-        Ok(lists)
+        lists
     }
 }

@@ -2,9 +2,9 @@
 ghost use Rattle.std.specs.Prelude.{◌≡◌, ◌<◌, ◌≤◌, ◌^◌, [], ◌∷◌, IfOk, length, vec_len, vec_capacity, map, replicate, Some, None, IsSome, slice_set};
 ghost use Rattle.std.specs.List.{All, AllZip, flat_map};
 ghost use Rattle.dw_pool.specs.Counter.{fresh};
-ghost use Rattle.dw_pool.specs.Waves.{Works, HasWorked, placed};
+ghost use Rattle.dw_pool.specs.Waves.{Works, HasWorked, HasRoom, placed};
 
-use crate::{Claims, OutOfMemory, Pass};
+use crate::{Claimed, Claims, OutOfMemory, Pass};
 use std::alloc::Global;
 use std::thread;
 use std::thread::Threads;
@@ -154,42 +154,89 @@ fn collect<O: Drop>(team: Vec<Worker<O>>, passes: &mut Vec<Pass>, slots: &mut Ve
     }
 }
 
-// The outputs, of which none is missing.
-fn filled<O: Drop>(alloc: Global, slots: Vec<Option<O>>) -> Result<Vec<O>, OutOfMemory>
-    requires { All IsSome slots.items }
-    ensures { IfOk result (λ outs. map Some outs.items ≡ slots.items) }
+// The outputs, of which none is missing, in the room of `outs`.
+fn filled<O: Drop>(slots: Vec<Option<O>>, outs: Vec<O>) -> Vec<O>
+    requires some { All IsSome slots.items }
+    requires empty { outs.items ≡ [] }
+    requires room { length slots.items ≤ vec_capacity outs }
+    ensures { map Some result.items ≡ slots.items }
 {
-    let mut outs = Vec::with_capacity(alloc, slots.len())?;
+    let mut outs = outs;
     for slot in slots {
-        outs.push(slot.unwrap())?;
+        outs.push_reserved(slot.unwrap());
     }
-    Ok(outs)
+    outs
 }
 
-// What the workers gave, in the order of the jobs.
+// Room for all that a wave needs once its jobs have run.
+#[derive(Drop)]
+pub(crate) struct Room<O> {
+    pub(crate) slots: Vec<Option<O>>,
+    pub(crate) passes: Vec<Pass>,
+    pub(crate) lists: Vec<Claimed>,
+    pub(crate) outs: Vec<O>,
+}
+
+fn room_for<O: Drop>(alloc: Global, jobs: usize, passes: usize) -> Result<Room<O>, OutOfMemory>
+    ensures { IfOk result (HasRoom jobs passes) }
+{
+    Ok(Room {
+        slots: vacant(alloc, jobs)?,
+        passes: Vec::with_capacity(alloc, passes)?,
+        lists: Vec::with_capacity(alloc, passes)?,
+        outs: Vec::with_capacity(alloc, jobs)?,
+    })
+}
+
+// What the workers gave, in the order of the jobs. It takes no memory.
 fn in_order<J: Job>(
-    alloc: Global,
     claims: Claims,
     jobs: &[J],
     team: Vec<Worker<J::Out>>,
-) -> Result<Vec<J::Out>, OutOfMemory>
+    room: Room<J::Out>,
+) -> Vec<J::Out>
     requires jobs { claims.jobs ≡ length jobs.now }
     requires all { length team.items ≡ claims.passes }
     requires worked { All (HasWorked J.gives jobs.now claims) team.items }
-    ensures { IfOk result (λ outs. AllZip J.gives jobs.now outs.items) }
+    requires room { HasRoom (length jobs.now) (length team.items) room }
+    ensures { AllZip J.gives jobs.now result.items }
 {
-    let mut slots = vacant(alloc, jobs.len())?;
-    let mut passes = Vec::with_capacity(alloc, team.len())?;
+    let Room {
+        mut slots,
+        mut passes,
+        lists,
+        outs,
+    } = room;
     collect(team, &mut passes, &mut slots);
-    let Ok(_lists) = claims.close(passes) else {
-        return Err(OutOfMemory);
-    };
-    filled(alloc, slots)
+    let _lists = claims.close_into(passes, lists);
+    filled(slots, outs)
 }
 
-/// Runs the jobs on at most so many workers, each in a thread of its own where one can be made. Each worker claims the
-/// next job until there is none. Output i is what job i gives, one for each job. Where there is no memory, some jobs
-/// may have run, and their outputs are dropped.
+// Runs the jobs in their threads. It takes no memory.
+fn run_team<R: Threads + Sync, J: Job, G: Gate>(
+    rt: &R,
+    claims: Claims,
+    jobs: &[J],
+    gate: &G,
+    workers: u32,
+    team: Vec<Worker<J::Out>>,
+    room: Room<J::Out>,
+) -> Vec<J::Out>
+    requires some { 0 < workers }
+    requires jobs { claims.jobs ≡ length jobs.now }
+    requires all { length team.items ≡ claims.passes }
+    requires works { All (Works J.gives jobs.now claims) team.items }
+    requires room { HasRoom (length jobs.now) (length team.items) room }
+    ensures { AllZip J.gives jobs.now result.items }
+{
+    let mut team = team;
+    work_side_by_side(rt, &claims, jobs, gate, workers, team.as_mut_slice());
+    in_order(claims, jobs, team, room)
+}
+
+/// Runs the jobs on at most so many workers, each in a thread of its own where one can be made, and no more workers
+/// than jobs. Each worker claims the next job until there is none. Output i is what job i gives, one for each job. All
+/// memory is taken before the first job runs: where there is none, no job has run.
 pub fn run_wave<R: Threads + Sync, J: Job, G: Gate>(
     rt: &R,
     alloc: Global,
@@ -202,15 +249,9 @@ pub fn run_wave<R: Threads + Sync, J: Job, G: Gate>(
     requires few { vec_len jobs < 2 ^ 32 }
     ensures { IfOk result (λ outs. AllZip J.gives jobs.items outs.items) }
 {
+    let workers = workers.min((jobs.len() as u32).max(1));
     let (claims, passes) = Claims::new(alloc, jobs.len() as u32, workers)?;
-    let mut team = team_of(alloc, &claims, jobs.as_slice(), passes)?;
-    work_side_by_side(
-        rt,
-        &claims,
-        jobs.as_slice(),
-        gate,
-        workers,
-        team.as_mut_slice(),
-    );
-    in_order(alloc, claims, jobs.as_slice(), team)
+    let team = team_of(alloc, &claims, jobs.as_slice(), passes)?;
+    let room = room_for(alloc, jobs.len(), team.len())?;
+    Ok(run_team(rt, claims, jobs.as_slice(), gate, workers, team, room))
 }

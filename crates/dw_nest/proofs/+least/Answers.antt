@@ -35,7 +35,7 @@ pub search::leap-loop-child-init : goal.search::leap-loop-child-init
 search::leap-loop-child-init g t c =
     record {
       unvisited = (refl, λ k d h. refl);
-      stays = (refl, λ i h. stays_itself g.L.DocIter.stands g.L.DocIter.keys (shapes c.args.children.now i));
+      stays = (refl, λ i h. stays_itself g.L.DocIter.stands g.L.DocIter.keys g.L.DocIter.made (shapes c.args.children.now i));
       round = λ i h. absurd (omega arith);
       goes_on = refl;
     }
@@ -79,7 +79,7 @@ search::leap-returns-then-is_over-clause-stays g t c =
     let before = c.args.children.now in
     let at : i < length before = omega (arith, c.loop-child-test.true) in
     let hand = at_hand before c.loop-child.children i c.child-item.result at inv.unvisited in
-    step g.L.DocIter.stands g.L.DocIter.keys before c.loop-child.children i _ c.reach-leap.new.child at hand c.reach-leap.ensures.stays inv.stays
+    step g.L.DocIter.stands g.L.DocIter.keys g.L.DocIter.made before c.loop-child.children i _ c.reach-leap.new.child at hand c.reach-leap.ensures.stays inv.stays
 
 pub search::leap-loop-child-preserved : goal.search::leap-loop-child-preserved
 search::leap-loop-child-preserved g t c =
@@ -97,7 +97,7 @@ search::leap-loop-child-preserved g t c =
     (round_over g.L.DocIter.stands g.L.DocIter.keys c.args.place before c.args.bound.now i c.loop-child.leap n inv.round)) in
     record {
       unvisited = waiting before c.loop-child.children i c.reach-leap.new.child inv.unvisited;
-      stays = step g.L.DocIter.stands g.L.DocIter.keys before c.loop-child.children i _ c.reach-leap.new.child at hand c.reach-leap.ensures.stays inv.stays;
+      stays = step g.L.DocIter.stands g.L.DocIter.keys g.L.DocIter.made before c.loop-child.children i _ c.reach-leap.new.child at hand c.reach-leap.ensures.stays inv.stays;
       round = round;
       goes_on = sym c.is_over.ensures ∙ c.if-is_over.false;
     }
@@ -114,76 +114,76 @@ search::leap-returns-clause-missing g t c =
 pub search::least_of_all-loop-key-init : goal.search::least_of_all-loop-key-init
 search::least_of_all-loop-key-init g t c =
     record {
-      stays = (refl, λ i h. stays_itself g.L.DocIter.stands g.L.DocIter.keys (shapes c.args.children.now i));
+      stays = (refl, λ i h. stays_itself g.L.DocIter.stands g.L.DocIter.keys g.L.DocIter.made (shapes c.args.children.now i));
       later = λ key h. h;
       none = λ lists f other m n. absurd (cc);
     }
 
 pub search::least_of_all-leap-requires : goal.search::least_of_all-leap-requires
 search::least_of_all-leap-requires g t c =
-    let same = weight-alike (Stays g.L.DocIter.stands g.L.DocIter.keys) (and (length c.args.children.now) (shapes c.args.children.now)) (and (length c.loop-key.children) (shapes c.loop-key.children)) c.loop-key.invariant.stays in
+    let same = weight-alike (Stays g.L.DocIter.stands g.L.DocIter.keys g.L.DocIter.made) (and (length c.args.children.now) (shapes c.args.children.now)) (and (length c.loop-key.children) (shapes c.loop-key.children)) c.loop-key.invariant.stays in
     let smaller : sum_of (length c.loop-key.children) (λ i. weight (shapes c.loop-key.children i)) + 2 < sum_of (length c.args.children.now) (λ i. weight (shapes c.args.children.now i)) + 3 = omega (arith, same) in
     search rules
 
 pub search::least_of_all-unreachable-requires : goal.search::least_of_all-unreachable-requires
 search::least_of_all-unreachable-requires g t c =
-    not_nowhere g.L.DocIter.stands g.L.DocIter.keys c.args.place c.args.children.now c.loop-key.children c.loop-key.invariant.stays c.requires c.in-Nowhere.ensures.leap
+    not_nowhere g.L.DocIter.stands g.L.DocIter.keys g.L.DocIter.made c.args.place c.args.children.now c.loop-key.children c.loop-key.invariant.stays c.requires c.in-Nowhere.ensures.leap
 
 pub search::least_of_all-returns-in-Some-true-clause-found : goal.search::least_of_all-returns-in-Some-true-clause-found
 search::least_of_all-returns-in-Some-true-clause-found g t c =
-    found_key g.L.DocIter.stands g.L.DocIter.keys c.args.place c.args.children.now c.loop-key.children c.loop-key.invariant.stays c.args.bound.now c.loop-key.at c.loop-key.invariant.later c.loop-key.invariant.none c.in-Agreed.key c.in-Agreed.ensures.leap
-    (others_back g.L.DocIter.stands g.L.DocIter.keys c.args.place c.loop-key.children c.leap.new.children c.leap.ensures.stays c.in-Agreed.key (c.in-Some-true.ensures.all (ap Some c.in-Some-true.field-0-test)))
+    found_key g.L.DocIter.stands g.L.DocIter.keys g.L.DocIter.made c.args.place c.args.children.now c.loop-key.children c.loop-key.invariant.stays c.args.bound.now c.loop-key.at c.loop-key.invariant.later c.loop-key.invariant.none c.in-Agreed.key c.in-Agreed.ensures.leap
+    (others_back g.L.DocIter.stands g.L.DocIter.keys g.L.DocIter.made c.args.place c.loop-key.children c.leap.new.children c.leap.ensures.stays c.in-Agreed.key (c.in-Some-true.ensures.all (ap Some c.in-Some-true.field-0-test)))
 
 pub search::least_of_all-returns-in-Some-true-clause-stays : goal.search::least_of_all-returns-in-Some-true-clause-stays
 search::least_of_all-returns-in-Some-true-clause-stays g t c =
-    stays_then g.L.DocIter.stands g.L.DocIter.keys (and (length c.args.children.now) (shapes c.args.children.now)) (and (length c.leap.new.children) (shapes c.leap.new.children)) (and (length c.others_pass.new.children) (shapes c.others_pass.new.children)) (stays_then g.L.DocIter.stands g.L.DocIter.keys (and (length c.args.children.now) (shapes c.args.children.now)) (and (length c.loop-key.children) (shapes c.loop-key.children)) (and (length c.leap.new.children) (shapes c.leap.new.children)) c.loop-key.invariant.stays c.leap.ensures.stays) c.others_pass.ensures.stays
+    stays_then g.L.DocIter.stands g.L.DocIter.keys g.L.DocIter.made (and (length c.args.children.now) (shapes c.args.children.now)) (and (length c.leap.new.children) (shapes c.leap.new.children)) (and (length c.others_pass.new.children) (shapes c.others_pass.new.children)) (stays_then g.L.DocIter.stands g.L.DocIter.keys g.L.DocIter.made (and (length c.args.children.now) (shapes c.args.children.now)) (and (length c.loop-key.children) (shapes c.loop-key.children)) (and (length c.leap.new.children) (shapes c.leap.new.children)) c.loop-key.invariant.stays c.leap.ensures.stays) c.others_pass.ensures.stays
 
 pub search::least_of_all-loop-key-smaller-in-Some-false : goal.search::least_of_all-loop-key-smaller-in-Some-false
 search::least_of_all-loop-key-smaller-in-Some-false g t c =
-    smaller_after g.L.DocIter.stands g.L.DocIter.keys c.args.place c.args.children.now c.loop-key.children c.loop-key.invariant.stays c.args.bound.now c.loop-key.at c.loop-key.invariant.later c.loop-key.invariant.none c.in-Agreed.key c.in-Agreed.ensures.leap
+    smaller_after g.L.DocIter.stands g.L.DocIter.keys g.L.DocIter.made c.args.place c.args.children.now c.loop-key.children c.loop-key.invariant.stays c.args.bound.now c.loop-key.at c.loop-key.invariant.later c.loop-key.invariant.none c.in-Agreed.key c.in-Agreed.ensures.leap
 
 pub search::least_of_all-loop-key-preserved-in-Some-false : goal.search::least_of_all-loop-key-preserved-in-Some-false
 search::least_of_all-loop-key-preserved-in-Some-false g t c =
     record {
-      stays = stays_then g.L.DocIter.stands g.L.DocIter.keys (and (length c.args.children.now) (shapes c.args.children.now)) (and (length c.leap.new.children) (shapes c.leap.new.children)) (and (length c.others_pass.new.children) (shapes c.others_pass.new.children)) (stays_then g.L.DocIter.stands g.L.DocIter.keys (and (length c.args.children.now) (shapes c.args.children.now)) (and (length c.loop-key.children) (shapes c.loop-key.children)) (and (length c.leap.new.children) (shapes c.leap.new.children)) c.loop-key.invariant.stays c.leap.ensures.stays) c.others_pass.ensures.stays;
-      later = onward_after g.L.DocIter.stands g.L.DocIter.keys c.args.place c.args.children.now c.loop-key.children c.loop-key.invariant.stays c.args.bound.now c.loop-key.at c.loop-key.invariant.later c.loop-key.invariant.none c.in-Agreed.key c.in-Agreed.ensures.leap.met;
-      none = none_after g.L.DocIter.stands g.L.DocIter.keys c.args.place c.args.children.now c.loop-key.children c.loop-key.invariant.stays c.args.bound.now c.loop-key.at c.loop-key.invariant.later c.loop-key.invariant.none c.in-Agreed.key c.in-Agreed.ensures.leap
-          (fails_back g.L.DocIter.stands g.L.DocIter.keys c.args.place c.loop-key.children c.leap.new.children c.leap.ensures.stays c.in-Agreed.key (c.in-Some-false.ensures.not_all (ap Some c.in-Some-false.field-0-test)));
+      stays = stays_then g.L.DocIter.stands g.L.DocIter.keys g.L.DocIter.made (and (length c.args.children.now) (shapes c.args.children.now)) (and (length c.leap.new.children) (shapes c.leap.new.children)) (and (length c.others_pass.new.children) (shapes c.others_pass.new.children)) (stays_then g.L.DocIter.stands g.L.DocIter.keys g.L.DocIter.made (and (length c.args.children.now) (shapes c.args.children.now)) (and (length c.loop-key.children) (shapes c.loop-key.children)) (and (length c.leap.new.children) (shapes c.leap.new.children)) c.loop-key.invariant.stays c.leap.ensures.stays) c.others_pass.ensures.stays;
+      later = onward_after g.L.DocIter.stands g.L.DocIter.keys g.L.DocIter.made c.args.place c.args.children.now c.loop-key.children c.loop-key.invariant.stays c.args.bound.now c.loop-key.at c.loop-key.invariant.later c.loop-key.invariant.none c.in-Agreed.key c.in-Agreed.ensures.leap.met;
+      none = none_after g.L.DocIter.stands g.L.DocIter.keys g.L.DocIter.made c.args.place c.args.children.now c.loop-key.children c.loop-key.invariant.stays c.args.bound.now c.loop-key.at c.loop-key.invariant.later c.loop-key.invariant.none c.in-Agreed.key c.in-Agreed.ensures.leap
+          (fails_back g.L.DocIter.stands g.L.DocIter.keys g.L.DocIter.made c.args.place c.loop-key.children c.leap.new.children c.leap.ensures.stays c.in-Agreed.key (c.in-Some-false.ensures.not_all (ap Some c.in-Some-false.field-0-test)));
     }
 
 pub search::least_of_all-returns-in-None-clause-stays : goal.search::least_of_all-returns-in-None-clause-stays
 search::least_of_all-returns-in-None-clause-stays g t c =
-    stays_then g.L.DocIter.stands g.L.DocIter.keys (and (length c.args.children.now) (shapes c.args.children.now)) (and (length c.leap.new.children) (shapes c.leap.new.children)) (and (length c.others_pass.new.children) (shapes c.others_pass.new.children)) (stays_then g.L.DocIter.stands g.L.DocIter.keys (and (length c.args.children.now) (shapes c.args.children.now)) (and (length c.loop-key.children) (shapes c.loop-key.children)) (and (length c.leap.new.children) (shapes c.leap.new.children)) c.loop-key.invariant.stays c.leap.ensures.stays) c.others_pass.ensures.stays
+    stays_then g.L.DocIter.stands g.L.DocIter.keys g.L.DocIter.made (and (length c.args.children.now) (shapes c.args.children.now)) (and (length c.leap.new.children) (shapes c.leap.new.children)) (and (length c.others_pass.new.children) (shapes c.others_pass.new.children)) (stays_then g.L.DocIter.stands g.L.DocIter.keys g.L.DocIter.made (and (length c.args.children.now) (shapes c.args.children.now)) (and (length c.loop-key.children) (shapes c.loop-key.children)) (and (length c.leap.new.children) (shapes c.leap.new.children)) c.loop-key.invariant.stays c.leap.ensures.stays) c.others_pass.ensures.stays
 
 pub search::least_of_all-loop-key-smaller : goal.search::least_of_all-loop-key-smaller
 search::least_of_all-loop-key-smaller g t c =
-    smaller_from g.L.DocIter.stands g.L.DocIter.keys c.args.place c.args.children.now c.loop-key.children c.loop-key.invariant.stays c.args.bound.now c.loop-key.at c.loop-key.invariant.later c.loop-key.invariant.none c.in-Ahead.key c.in-Ahead.ensures.leap
+    smaller_from g.L.DocIter.stands g.L.DocIter.keys g.L.DocIter.made c.args.place c.args.children.now c.loop-key.children c.loop-key.invariant.stays c.args.bound.now c.loop-key.at c.loop-key.invariant.later c.loop-key.invariant.none c.in-Ahead.key c.in-Ahead.ensures.leap
 
 pub search::least_of_all-loop-key-preserved : goal.search::least_of_all-loop-key-preserved
 search::least_of_all-loop-key-preserved g t c =
     record {
-      stays = stays_then g.L.DocIter.stands g.L.DocIter.keys (and (length c.args.children.now) (shapes c.args.children.now)) (and (length c.loop-key.children) (shapes c.loop-key.children)) (and (length c.leap.new.children) (shapes c.leap.new.children)) c.loop-key.invariant.stays c.leap.ensures.stays;
-      later = onward_from g.L.DocIter.stands g.L.DocIter.keys c.args.place c.args.children.now c.loop-key.children c.loop-key.invariant.stays c.args.bound.now c.loop-key.at c.loop-key.invariant.later c.loop-key.invariant.none c.in-Ahead.key c.in-Ahead.ensures.leap.met;
-      none = none_from g.L.DocIter.stands g.L.DocIter.keys c.args.place c.args.children.now c.loop-key.children c.loop-key.invariant.stays c.args.bound.now c.loop-key.at c.loop-key.invariant.later c.loop-key.invariant.none c.in-Ahead.key c.in-Ahead.ensures.leap;
+      stays = stays_then g.L.DocIter.stands g.L.DocIter.keys g.L.DocIter.made (and (length c.args.children.now) (shapes c.args.children.now)) (and (length c.loop-key.children) (shapes c.loop-key.children)) (and (length c.leap.new.children) (shapes c.leap.new.children)) c.loop-key.invariant.stays c.leap.ensures.stays;
+      later = onward_from g.L.DocIter.stands g.L.DocIter.keys g.L.DocIter.made c.args.place c.args.children.now c.loop-key.children c.loop-key.invariant.stays c.args.bound.now c.loop-key.at c.loop-key.invariant.later c.loop-key.invariant.none c.in-Ahead.key c.in-Ahead.ensures.leap.met;
+      none = none_from g.L.DocIter.stands g.L.DocIter.keys g.L.DocIter.made c.args.place c.args.children.now c.loop-key.children c.loop-key.invariant.stays c.args.bound.now c.loop-key.at c.loop-key.invariant.later c.loop-key.invariant.none c.in-Ahead.key c.in-Ahead.ensures.leap;
     }
 
 pub search::least_of_all-returns-in-Ended-clause-found : goal.search::least_of_all-returns-in-Ended-clause-found
 search::least_of_all-returns-in-Ended-clause-found g t c =
-    none_end g.L.DocIter.stands g.L.DocIter.keys c.args.place c.args.children.now c.loop-key.children c.loop-key.invariant.stays c.args.bound.now c.loop-key.at c.loop-key.invariant.later c.loop-key.invariant.none c.in-Ended.ensures.leap
+    none_end g.L.DocIter.stands g.L.DocIter.keys g.L.DocIter.made c.args.place c.args.children.now c.loop-key.children c.loop-key.invariant.stays c.args.bound.now c.loop-key.at c.loop-key.invariant.later c.loop-key.invariant.none c.in-Ended.ensures.leap
 
 pub search::least_of_all-returns-in-Ended-clause-stays : goal.search::least_of_all-returns-in-Ended-clause-stays
 search::least_of_all-returns-in-Ended-clause-stays g t c =
-    stays_then g.L.DocIter.stands g.L.DocIter.keys (and (length c.args.children.now) (shapes c.args.children.now)) (and (length c.loop-key.children) (shapes c.loop-key.children)) (and (length c.leap.new.children) (shapes c.leap.new.children)) c.loop-key.invariant.stays c.leap.ensures.stays
+    stays_then g.L.DocIter.stands g.L.DocIter.keys g.L.DocIter.made (and (length c.args.children.now) (shapes c.args.children.now)) (and (length c.loop-key.children) (shapes c.loop-key.children)) (and (length c.leap.new.children) (shapes c.leap.new.children)) c.loop-key.invariant.stays c.leap.ensures.stays
 
 pub search::least_of_all-returns-in-Unknown-clause-stays : goal.search::least_of_all-returns-in-Unknown-clause-stays
 search::least_of_all-returns-in-Unknown-clause-stays g t c =
-    stays_then g.L.DocIter.stands g.L.DocIter.keys (and (length c.args.children.now) (shapes c.args.children.now)) (and (length c.loop-key.children) (shapes c.loop-key.children)) (and (length c.leap.new.children) (shapes c.leap.new.children)) c.loop-key.invariant.stays c.leap.ensures.stays
+    stays_then g.L.DocIter.stands g.L.DocIter.keys g.L.DocIter.made (and (length c.args.children.now) (shapes c.args.children.now)) (and (length c.loop-key.children) (shapes c.loop-key.children)) (and (length c.leap.new.children) (shapes c.leap.new.children)) c.loop-key.invariant.stays c.leap.ensures.stays
 
 pub search::least_of_any-loop-child-init : goal.search::least_of_any-loop-child-init
 search::least_of_any-loop-child-init g t c =
     record {
       unvisited = (refl, λ k d h. refl);
-      stays = (refl, λ i h. stays_itself g.L.DocIter.stands g.L.DocIter.keys (shapes c.args.children.now i));
+      stays = (refl, λ i h. stays_itself g.L.DocIter.stands g.L.DocIter.keys g.L.DocIter.made (shapes c.args.children.now i));
       so_far = λ lists f other m. refl;
       known = λ e. absurd (cc);
     }
@@ -213,7 +213,7 @@ search::least_of_any-returns-in-Missing-clause-stays g t c =
     let before = c.args.children.now in
     let at : i < length before = omega (arith, c.loop-child-test.true) in
     let hand = at_hand before c.loop-child.children i c.child-item.result at inv.unvisited in
-    step g.L.DocIter.stands g.L.DocIter.keys before c.loop-child.children i _ c.least_at.new.self at hand c.least_at.ensures.stays inv.stays
+    step g.L.DocIter.stands g.L.DocIter.keys g.L.DocIter.made before c.loop-child.children i _ c.least_at.new.self at hand c.least_at.ensures.stays inv.stays
 
 pub search::least_of_any-loop-child-preserved : goal.search::least_of_any-loop-child-preserved
 search::least_of_any-loop-child-preserved g t c =
@@ -224,7 +224,7 @@ search::least_of_any-loop-child-preserved g t c =
     let hand = at_hand before c.loop-child.children i c.child-item.result at inv.unvisited in
     record {
       unvisited = waiting before c.loop-child.children i c.least_at.new.self inv.unvisited;
-      stays = step g.L.DocIter.stands g.L.DocIter.keys before c.loop-child.children i _ c.least_at.new.self at hand c.least_at.ensures.stays inv.stays;
+      stays = step g.L.DocIter.stands g.L.DocIter.keys g.L.DocIter.made before c.loop-child.children i _ c.least_at.new.self at hand c.least_at.ensures.stays inv.stays;
       so_far = subst (λ f. IsLeast (ChildrenStand g.L.DocIter.stands before) (λ lists key. any_of (i + 1) (λ j. passes c.args.place (value (lists j) key))) (Held g.L.DocIter.keys (and (length before) (shapes before))) c.args.bound.now f) (sym c.sooner-least.ensures)
           (any_on g.L.DocIter.stands g.L.DocIter.keys c.args.place before c.args.bound.now i at c.loop-child.least c.least_at.result inv.so_far
           (subst (λ s. IsLeast (Alike g.L.DocIter.stands s) (λ lists key. passes c.args.place (value lists key)) (Held g.L.DocIter.keys s) c.args.bound.now c.least_at.result) hand c.least_at.ensures.found));
@@ -242,7 +242,7 @@ search::least_of_any-returns-clause-missing g t c =
 
 pub search::reach-returns-then-not-enumerable_at-clause-stays : goal.search::reach-returns-then-not-enumerable_at-clause-stays
 search::reach-returns-then-not-enumerable_at-clause-stays g t c =
-    stays_itself g.L.DocIter.stands g.L.DocIter.keys (shape c.args.child.now)
+    stays_itself g.L.DocIter.stands g.L.DocIter.keys g.L.DocIter.made (shape c.args.child.now)
 
 pub tree::Tree::least_at-returns-in-Not-clause-found : goal.tree::Tree::least_at-returns-in-Not-clause-found
 tree::Tree::least_at-returns-in-Not-clause-found g t c =
@@ -267,7 +267,7 @@ pub tree::Tree::least_at-returns-in-And-clause-stays : goal.tree::Tree::least_at
 tree::Tree::least_at-returns-in-And-clause-stays g t c =
     let e = whole_and c.args.self.now c.in-And.children c.deref_mut-in-And.result.now c.in-And.ensures.value c.deref_mut-in-And.ensures.value in
     let b = back_and c.in-And.children c.least_among-found.new.children (c.least_among-found.auto.children ∙ c.deref_mut-in-And.ensures.len) in
-    alike_between (Stays g.L.DocIter.stands g.L.DocIter.keys) _ _ _ _ (sym e) (sym b) c.least_among-found.ensures.stays
+    alike_between (Stays g.L.DocIter.stands g.L.DocIter.keys g.L.DocIter.made) _ _ _ _ (sym e) (sym b) c.least_among-found.ensures.stays
 
 pub tree::Tree::least_at-returns-in-Or-clause-found : goal.tree::Tree::least_at-returns-in-Or-clause-found
 tree::Tree::least_at-returns-in-Or-clause-found g t c =
@@ -285,4 +285,4 @@ pub tree::Tree::least_at-returns-in-Or-clause-stays : goal.tree::Tree::least_at-
 tree::Tree::least_at-returns-in-Or-clause-stays g t c =
     let e = whole_or c.args.self.now c.in-Or.children c.deref_mut-in-Or.result.now c.in-Or.ensures.value c.deref_mut-in-Or.ensures.value in
     let b = back_or c.in-Or.children c.least_among-found-in-Or.new.children (c.least_among-found-in-Or.auto.children ∙ c.deref_mut-in-Or.ensures.len) in
-    alike_between (Stays g.L.DocIter.stands g.L.DocIter.keys) _ _ _ _ (sym e) (sym b) c.least_among-found-in-Or.ensures.stays
+    alike_between (Stays g.L.DocIter.stands g.L.DocIter.keys g.L.DocIter.made) _ _ _ _ (sym e) (sym b) c.least_among-found-in-Or.ensures.stays

@@ -32,7 +32,7 @@ decreases-search::reach g l = weight (shape l.child.now) + 1
 abbrev pub invariant-search::leap-loop-child : goal.invariant-search::leap-loop-child
 invariant-search::leap-loop-child g l = record {
   unvisited : Waiting l.initial.children l.children l.child-index;
-  stays : Alike (Stays g.L.DocIter.stands g.L.DocIter.keys) (and (length l.initial.children) (shapes l.initial.children)) (and (length l.children) (shapes l.children));
+  stays : Alike (Stays g.L.DocIter.stands g.L.DocIter.keys g.L.DocIter.made) (and (length l.initial.children) (shapes l.initial.children)) (and (length l.children) (shapes l.children));
   round : IsLeap g.L.DocIter.stands g.L.DocIter.keys l.place l.initial.children l.child-index l.bound l.leap;
   goes_on : is_over l.leap ≡ false;
 }
@@ -40,14 +40,14 @@ invariant-search::leap-loop-child g l = record {
 abbrev pub invariant-search::least_of_any-loop-child : goal.invariant-search::least_of_any-loop-child
 invariant-search::least_of_any-loop-child g l = record {
   unvisited : Waiting l.initial.children l.children l.child-index;
-  stays : Alike (Stays g.L.DocIter.stands g.L.DocIter.keys) (and (length l.initial.children) (shapes l.initial.children)) (and (length l.children) (shapes l.children));
+  stays : Alike (Stays g.L.DocIter.stands g.L.DocIter.keys g.L.DocIter.made) (and (length l.initial.children) (shapes l.initial.children)) (and (length l.children) (shapes l.children));
   so_far : IsLeast (ChildrenStand g.L.DocIter.stands l.initial.children) (λ lists key. any_of l.child-index (λ i. passes l.place (value (lists i) key))) (Held g.L.DocIter.keys (and (length l.initial.children) (shapes l.initial.children))) l.bound l.least;
   known : l.least ≢ Missing;
 }
 
 abbrev pub invariant-search::least_of_all-loop-key : goal.invariant-search::least_of_all-loop-key
 invariant-search::least_of_all-loop-key g l = record {
-  stays : Alike (Stays g.L.DocIter.stands g.L.DocIter.keys) (and (length l.initial.children) (shapes l.initial.children)) (and (length l.children) (shapes l.children));
+  stays : Alike (Stays g.L.DocIter.stands g.L.DocIter.keys g.L.DocIter.made) (and (length l.initial.children) (shapes l.initial.children)) (and (length l.children) (shapes l.children));
   later : (key : DocKey) → meets l.at key ≡ true → meets l.bound key ≡ true;
   none : (lists : ℕ → Shape (List DocKey)) → ChildrenStand g.L.DocIter.stands l.initial.children lists → (other : DocKey) → meets l.bound other ≡ true → meets l.at other ≡ false → children_pass All l.place (length l.initial.children) lists other ≡ false;
 }

@@ -11,7 +11,7 @@ use Rattle.dw_nest.proofs.search.others_pass.Goals as goal
 pub loop-child-init : goal.loop-child-init
 loop-child-init g c = record {
   unvisited = (refl, λ k d h. refl);
-  stays = (refl, λ i h. stays_itself g.L.DocIter.stands g.L.DocIter.keys (shapes c.args.children.now i));
+  stays = (refl, λ i h. stays_itself g.L.DocIter.stands g.L.DocIter.keys g.L.DocIter.made (shapes c.args.children.now i));
   so_far = λ lists h i l. absurd (omega arith);
 }
 
@@ -28,7 +28,7 @@ loop-child-preserved g c =
     let hand = at_hand before c.loop-child.children i c.child-item.result at inv.unvisited in
     record {
       unvisited = waiting before c.loop-child.children i c.other_passes.new.child inv.unvisited;
-      stays = step g.L.DocIter.stands g.L.DocIter.keys before c.loop-child.children i _ c.other_passes.new.child at hand c.other_passes.ensures.stays inv.stays;
+      stays = step g.L.DocIter.stands g.L.DocIter.keys g.L.DocIter.made before c.loop-child.children i _ c.other_passes.new.child at hand c.other_passes.ensures.stays inv.stays;
       so_far = λ lists h j l e. dite (dec_lt j i) (λ m. inv.so_far lists h j m e) (λ no.
           let same : i ≡ j = omega arith in
           subst (λ k. is_enumerable c.args.place (shapes before k) ≡ false → passes c.args.place (value (lists k) c.args.key.now) ≡ true) same
@@ -50,7 +50,7 @@ returns-in-Some-false-clause-stays g c =
     let inv = c.loop-child.invariant in
     let i = c.loop-child.child-index in
     let at : i < length c.args.children.now = omega (arith, c.loop-child-test.true) in
-    step g.L.DocIter.stands g.L.DocIter.keys c.args.children.now c.loop-child.children i _ c.other_passes.new.child at (at_hand c.args.children.now c.loop-child.children i c.child-item.result at inv.unvisited) c.other_passes.ensures.stays inv.stays
+    step g.L.DocIter.stands g.L.DocIter.keys g.L.DocIter.made c.args.children.now c.loop-child.children i _ c.other_passes.new.child at (at_hand c.args.children.now c.loop-child.children i c.child-item.result at inv.unvisited) c.other_passes.ensures.stays inv.stays
 
 pub returns-in-None-clause-none : goal.returns-in-None-clause-none
 returns-in-None-clause-none g c = λ _.
@@ -61,4 +61,4 @@ returns-in-None-clause-stays g c =
     let inv = c.loop-child.invariant in
     let i = c.loop-child.child-index in
     let at : i < length c.args.children.now = omega (arith, c.loop-child-test.true) in
-    step g.L.DocIter.stands g.L.DocIter.keys c.args.children.now c.loop-child.children i _ c.other_passes.new.child at (at_hand c.args.children.now c.loop-child.children i c.child-item.result at inv.unvisited) c.other_passes.ensures.stays inv.stays
+    step g.L.DocIter.stands g.L.DocIter.keys g.L.DocIter.made c.args.children.now c.loop-child.children i _ c.other_passes.new.child at (at_hand c.args.children.now c.loop-child.children i c.child-item.result at inv.unvisited) c.other_passes.ensures.stays inv.stays

@@ -9,6 +9,6 @@ use Rattle.dw_nest.proofs.search.others_pass.Given as goal
 abbrev pub invariant-loop-child : goal.invariant-loop-child
 invariant-loop-child g l = record {
   unvisited : Waiting l.initial.children l.children l.child-index;
-  stays : Alike (Stays g.L.DocIter.stands g.L.DocIter.keys) (and (length l.initial.children) (shapes l.initial.children)) (and (length l.children) (shapes l.children));
+  stays : Alike (Stays g.L.DocIter.stands g.L.DocIter.keys g.L.DocIter.made) (and (length l.initial.children) (shapes l.initial.children)) (and (length l.children) (shapes l.children));
   so_far : (lists : ℕ → Shape (List DocKey)) → ChildrenStand g.L.DocIter.stands l.initial.children lists → (i : ℕ) → i < l.child-index → is_enumerable l.place (shapes l.initial.children i) ≡ false → passes l.place (value (lists i) l.key) ≡ true;
 }

@@ -13,6 +13,7 @@ returns-in_default g c = record {
   none = tt;
   same = c.seek.ensures.same;
   keys = c.seek.ensures.keys;
+  made = c.seek.ensures.made;
 }
 
 pub returns-in-End-clause-value : goal.returns-in-End-clause-value

@@ -1,4 +1,4 @@
-use Rattle.std.proofs.Common.{◌≡◌, map}
+use Rattle.std.proofs.Common.{◌≡◌, ◌≤◌, length, map, vec_capacity}
 use Rattle.std.specs.Prelude.{Some}
 use Rattle.dw_pool.proofs.wave.filled.Given as goal
 
@@ -7,3 +7,4 @@ invariant-loop-slot g l =
     (goal.iterator-loop-slot g).can_next l.slot-iterator
     × (goal.iterator-loop-slot g).is_finite l.slot-iterator
     × (map Some l.outs.items ≡ l.yielded)
+    × (length l.fn.slots.items ≤ vec_capacity l.outs)

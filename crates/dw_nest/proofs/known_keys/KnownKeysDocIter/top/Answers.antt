@@ -3,7 +3,7 @@ use Rattle.std.specs.Prelude.{slice_get}
 use Rattle.dw_key.specs.declared.doc_key.DocKey.{DocKey}
 use Rattle.dw_nest.specs.Bounds.{meets, rest}
 use Rattle.dw_nest.proofs.Finds.{first_of, none_of, found_in}
-use Rattle.dw_nest.proofs.listed.ListedDocIter.top.Goals as goal
+use Rattle.dw_nest.proofs.known_keys.KnownKeysDocIter.top.Goals as goal
 
 pub returns-in-Some-clause-key : goal.returns-in-Some-clause-key
 returns-in-Some-clause-key c = λ all s. subst (λ (a : List DocKey). slice_get (rest a c.args.self.now.bound) 0 ≡ Some c.in-Some.key) (sym s.0)

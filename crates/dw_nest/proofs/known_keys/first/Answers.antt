@@ -1,7 +1,7 @@
 use Rattle.std.proofs.Common.{sym}
 use Rattle.dw_nest.specs.Bounds.{meets}
 use Rattle.dw_nest.proofs.Finds.{find_here, find_later, find_none}
-use Rattle.dw_nest.proofs.listed.first.Goals as goal
+use Rattle.dw_nest.proofs.known_keys.first.Goals as goal
 
 pub loop-key-preserved : goal.loop-key-preserved
 loop-key-preserved c = find_later (meets c.args.bound.now) c.args.keys.now c.loop-key.key-index c.key-item.result c.loop-key-test.true c.loop-key.invariant c.key-item.is (sym c.if-is_met_by.ensures)

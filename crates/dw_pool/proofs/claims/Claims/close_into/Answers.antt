@@ -1,7 +1,7 @@
 use Rattle.std.proofs.Common.{arith, ap, sym, ◌∙◌}
 use Rattle.dw_pool.specs.Numbers.{times}
 use Rattle.dw_pool.proofs.Closing.{closes, held_drawn}
-use Rattle.dw_pool.proofs.claims.Claims.close.Goals as goal
+use Rattle.dw_pool.proofs.claims.Claims.close_into.Goals as goal
 
 pub returns-clause-once : goal.returns-clause-once
 returns-clause-once c =

@@ -1,29 +1,31 @@
-ghost use Rattle.std.specs.Prelude.{◌≡◌, find};
+ghost use Rattle.std.specs.Prelude.{◌≡◌, [], find};
 ghost use Rattle.dw_nest.specs.Bounds.{meets};
-ghost use Rattle.dw_nest.specs.Leaves.{stands_listed, top_of, is_missing};
+ghost use Rattle.dw_nest.specs.Leaves.{stands_known, top_of, is_missing};
 
 use crate::bound::{Bound, Top};
 use crate::leaf::DocIter;
 use dw_key::DocKey;
 
 /// An iterator over a sorted list of keys, all of which it knows. It looks through the list at each
-/// call, so it is for tests.
+/// call.
 #[derive(Clone, Copy, Debug)]
-pub struct Listed<'a> {
-    pub keys: &'a [DocKey],
-    pub bound: Bound,
+pub(crate) struct KnownKeys<'a> {
+    pub(crate) keys: &'a [DocKey],
+    pub(crate) bound: Bound,
 }
 
-impl DocIter for Listed<'_> {
+impl DocIter for KnownKeys<'_> {
     ghost at = { λ s. s.bound };
 
     ghost stuck = { λ s. is_missing (top_of (find (meets s.bound) s.keys.now)) };
 
-    ghost stands = { λ s. stands_listed s.keys.now };
+    ghost stands = { λ s. stands_known s.keys.now };
 
     ghost shown = { λ s. top_of (find (meets s.bound) s.keys.now) };
 
     ghost keys = { λ s. s.keys.now };
+
+    ghost made = { λ _. [] };
 
     fn seek(&mut self, bound: &Bound) {
         self.bound = *bound;

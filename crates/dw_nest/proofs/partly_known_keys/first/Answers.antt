@@ -1,7 +1,7 @@
 use Rattle.std.proofs.Common.{sym}
 use Rattle.dw_nest.specs.Leaves.{spot_meets}
 use Rattle.dw_nest.proofs.Finds.{find_here, find_later, find_none}
-use Rattle.dw_nest.proofs.partial.first.Goals as goal
+use Rattle.dw_nest.proofs.partly_known_keys.first.Goals as goal
 
 pub loop-spot-preserved : goal.loop-spot-preserved
 loop-spot-preserved c = find_later (spot_meets c.args.bound.now) c.args.spots.now c.loop-spot.spot-index c.spot-item.result c.loop-spot-test.true c.loop-spot.invariant c.spot-item.is (sym c.if-is_met_by.ensures)
