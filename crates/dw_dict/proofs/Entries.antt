@@ -1,5 +1,5 @@
 -- The dictionary of the entries of a tree, as they change.
-use Rattle.std.proofs.Common.{◌≡◌, ℕ, Bool, true, false, cond, List, [], ◌∷◌, map, Option, Some, Result, Ok, Err, OnOk, OnErr, String, string_bytes, refl, sym, ap, ap₂, ◌∙◌, subst, unwrap_or}
+use Rattle.std.proofs.Common.{◌≡◌, ℕ, Bool, true, false, cond, List, [], ◌∷◌, map, Some, String, string_bytes, refl, sym, ap, ap₂, ◌∙◌}
 use Rattle.std.specs.declared.alloc.Global.{Global}
 use Rattle.std.specs.Ordering.{nat_cmp, eq_by_cmp}
 use Rattle.std.specs.Cmp.Lexicographic.{slice_cmp, nat_list_cmp_total}
@@ -8,13 +8,12 @@ use Rattle.std.specs.Map.{lookup}
 use Rattle.std.specs.BTreeMap.{BTreeMap, is_at, get_by_text, UpdatesBy}
 use Rattle.std.specs.Str.{bytes_eq}
 use Rattle.std.specs.String.{string_cmp}
-use Rattle.std.specs.FinMap.{find, get, empty, insert, get-empty, get-insert, get-from_entries, same_map}
+use Rattle.std.specs.FinMap.{find, get, insert, get-insert, get-from_entries, same_map}
 use Rattle.std.proofs.lemmas.Map.Lookups.{exact_bytes}
 use Rattle.std.proofs.lemmas.Map.Text.{btree_map_updates_text, is_eq-slice_cmp}
 use Rattle.std.proofs.lemmas.Slice.Eq.{bytes_eq-Decides}
 use Rattle.dw_dict.specs.declared.rule.FieldRule.{FieldRule}
-use Rattle.dw_dict.specs.Rules.{IsRule}
-use Rattle.dw_dict.specs.Dictionary.{Dictionary, undefined, KeepsRules, of_entries}
+use Rattle.dw_dict.specs.Dictionary.{of_entries}
 
 find_text : (es : List (String Global × FieldRule)) (q : List ℕ)
     → find (slice_cmp nat_cmp) q (map (λ e. (string_bytes e.0, e.1)) es) ≡ lookup (is_at (λ k. slice_cmp nat_cmp q (string_bytes k))) es
@@ -41,26 +40,6 @@ pub one_set : (m n : BTreeMap (String Global) FieldRule) (k : List ℕ) (rule : 
 one_set m n k rule h = same_map nat_list_cmp_total exact_bytes _ _ (λ q.
     get_text n q ∙ btree_map_updates_text k m n (Some rule) h q ∙ ap (cond (bytes_eq k q) (Some rule)) (sym (get_text m q))
     ∙ sym (get-insert nat_list_cmp_total (of_entries m.entries) k rule q ∙ ap (λ (b : Bool). cond b (Some rule) (get (of_entries m.entries) q)) (same_test q k)))
-
--- ---- each rule is one
-
-rule_at : (b : Bool) (rule : FieldRule) (o : Option FieldRule) → IsRule rule → IsRule (unwrap_or o undefined) → IsRule (unwrap_or (cond b (Some rule) o) undefined)
-rule_at true rule o h k = h
-rule_at false rule o h k = k
-
-pub keeps_set : (dict : Dictionary) (k : List ℕ) (rule : FieldRule) → IsRule rule → KeepsRules dict → KeepsRules (insert dict k rule)
-keeps_set dict k rule h all q =
-    subst (λ (o : Option FieldRule). IsRule (unwrap_or o undefined)) (sym (get-insert nat_list_cmp_total dict k rule q))
-    (rule_at (eq_by_cmp (slice_cmp nat_cmp) q k) rule (get dict q) h (all q))
-
-pub keeps_none : KeepsRules (empty {X = FieldRule} {R = slice_cmp nat_cmp})
-keeps_none q = subst (λ (o : Option FieldRule). IsRule (unwrap_or o undefined)) (sym (get-empty (slice_cmp nat_cmp) q)) (λ h. h)
-
--- a call that set the rule of one field, or nothing
-pub keeps_put : {E : Type 0} (r : Result (Unit {0}) E) (es fs : List (String Global × FieldRule)) (k : List ℕ) (rule : FieldRule)
-    → OnOk r (of_entries fs ≡ insert (of_entries es) k rule) → OnErr r (fs ≡ es) → IsRule rule → KeepsRules (of_entries es) → KeepsRules (of_entries fs)
-keeps_put (Ok u) es fs k rule e f h all = subst KeepsRules (sym e) (keeps_set (of_entries es) k rule h all)
-keeps_put (Err u) es fs k rule e f h all = subst (λ (gs : List (String Global × FieldRule)). KeepsRules (of_entries gs)) (sym f) all
 
 -- ---- a clone
 

@@ -1,5 +1,8 @@
 -- The dictionary as a map from the names of fields to their rules.
-use Rattle.std.specs.Prelude.{◌≡◌, ℕ, zero, suc, Bool, false, List, map as list_map, refl, String, string_bytes, unwrap_or}
+use mathlib.Core.Bool.{Bool-set}
+use mathlib.Core.Path.{sym}
+use Rattle.std.proofs.lemmas.Bool.{true≢false}
+use Rattle.std.specs.Prelude.{◌≡◌, ℕ, zero, suc, Bool, true, false, ◌||◌, IsTrue, List, map as list_map, refl, String, string_bytes, unwrap_or}
 use Rattle.std.specs.Ordering.{nat_cmp}
 use Rattle.std.specs.Cmp.Lexicographic.{slice_cmp}
 use Rattle.std.specs.FinMap as map
@@ -8,7 +11,7 @@ use Rattle.std.specs.declared.alloc.Global.{Global}
 use Rattle.dw_norm.specs.declared.kind.Kind.{Kind}
 use Rattle.dw_norm.specs.declared.kind.Kind.TheVariants.{Text, Noop, Number, Date, Ipv4}
 use Rattle.dw_dict.specs.declared.rule.FieldRule.{FieldRule}
-use Rattle.dw_dict.specs.Rules.{IsRule, kind_number}
+use Rattle.dw_dict.specs.Rules.{kind_number}
 
 -- from the names of the fields that were defined to their rules
 abbrev pub Dictionary : Type 0
@@ -16,15 +19,11 @@ Dictionary = map.FinMap (slice_cmp nat_cmp) FieldRule
 
 -- the rule of a field that was not defined
 abbrev pub undefined : FieldRule
-undefined = record { kind = Text; indexed = false; reversed = false }
+undefined = record { kind = Text; indexed = false; reversed = false; ruled = λ h. h }
 
 -- the rule of a field
 abbrev pub rule_of : Dictionary → List ℕ → FieldRule
 rule_of dict field = unwrap_or (map.get dict field) undefined
-
--- each field has `reversed` only with `indexed`
-abbrev pub KeepsRules : Dictionary → Type 0
-KeepsRules dict = (field : List ℕ) → IsRule (rule_of dict field)
 
 -- the dictionary of some entries, by the bytes of the names
 abbrev pub of_entries : List (String Global × FieldRule) → Dictionary
@@ -49,10 +48,20 @@ kind_again Ipv4 = refl
 abbrev pub kind_code : Coded Kind
 kind_code = code_by ℕ coded_ℕ kind_number kind_at kind_again
 
+pub ruled_by : (indexed reversed : Bool) → IsTrue reversed → IsTrue (indexed || reversed)
+ruled_by true reversed h = refl
+ruled_by false reversed h = h
+
+abbrev pub rule_at : Kind × (Bool × Bool) → FieldRule
+rule_at p = record { kind = p.0; indexed = p.1.0 || p.1.1; reversed = p.1.1; ruled = ruled_by p.1.0 p.1.1 }
+
+pub rule_again : (kind : Kind) (indexed reversed : Bool) (ruled : IsTrue reversed → IsTrue indexed) → rule_at (kind, (indexed, reversed)) ≡ record { kind = kind; indexed = indexed; reversed = reversed; ruled = ruled }
+rule_again kind true reversed ruled = λ i. record { kind = kind; indexed = true; reversed = reversed; ruled = λ h. Bool-set true true (ruled_by true reversed h) (ruled h) i }
+rule_again kind false true ruled = absurd (true≢false (sym (ruled refl)))
+rule_again kind false false ruled = λ i. record { kind = kind; indexed = false; reversed = false; ruled = λ h. Bool-set false true (ruled_by false false h) (ruled h) i }
+
 abbrev pub rule_code : Coded FieldRule
-rule_code =
-    code_by (Kind × (Bool × Bool)) (coded× kind_code (coded× coded_bool coded_bool)) (λ r. (r.kind, (r.indexed, r.reversed)))
-    (λ p. record { kind = p.0; indexed = p.1.0; reversed = p.1.1 }) (λ _. refl)
+rule_code = code_by (Kind × (Bool × Bool)) (coded× kind_code (coded× coded_bool coded_bool)) (λ r. (r.kind, (r.indexed, r.reversed))) rule_at (λ r. rule_again r.kind r.indexed r.reversed r.ruled)
 
 abbrev pub dictionary_code : Coded Dictionary
 dictionary_code = map.code (coded_list coded_ℕ) rule_code

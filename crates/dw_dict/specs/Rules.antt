@@ -1,12 +1,8 @@
--- What the rule of a field may be, and which rules a field may have after it.
+-- Which rules a field may have after another.
 use Rattle.std.specs.Prelude.{◌≡◌, ℕ, ◌==◌, Bool, ◌&&◌, ◌||◌, not, IsTrue}
 use Rattle.dw_norm.specs.declared.kind.Kind.{Kind}
 use Rattle.dw_norm.specs.declared.kind.Kind.TheVariants.{Text, Noop, Number, Date, Ipv4}
 use Rattle.dw_dict.specs.declared.rule.FieldRule.{FieldRule}
-
--- `reversed` stands only with `indexed`
-abbrev pub IsRule : FieldRule → Type 0
-IsRule rule = IsTrue rule.reversed → IsTrue rule.indexed
 
 -- the kinds are equal, `indexed` stands where it stood, and `reversed` where it stood
 abbrev pub Widens : FieldRule → FieldRule → Type 0

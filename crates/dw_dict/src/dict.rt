@@ -1,7 +1,6 @@
 ghost use Rattle.std.specs.Prelude.{◌≡◌, IfOk, OnOk, OnErr};
 ghost use Rattle.std.specs.FinMap as map;
-ghost use Rattle.dw_dict.specs.Rules.{IsRule};
-ghost use Rattle.dw_dict.specs.Dictionary.{of_entries, rule_of};
+ghost use Rattle.dw_dict.specs.Dictionary.{of_entries, rule_of, undefined as undefined_rule};
 
 use crate::OutOfMemory;
 use crate::rule::FieldRule;
@@ -18,15 +17,13 @@ pub struct Dict {
 }
 
 impl Model for Dict {
-    ghost use Rattle.dw_dict.specs.Dictionary.{Dictionary, dictionary_code, KeepsRules, of_entries};
+    ghost use Rattle.dw_dict.specs.Dictionary.{Dictionary, dictionary_code, of_entries};
 
     ghost Value = { Dictionary };
 
     ghost coded = { dictionary_code };
 
     ghost view = { λ d. of_entries d.rules.entries };
-
-    ghost invariant = { λ d. KeepsRules (of_entries d.rules.entries) };
 }
 
 impl Dict {
@@ -42,7 +39,6 @@ impl Dict {
 
     /// Sets the rule of a field, in place of the one that it had. After an error each field is as before.
     pub fn define(&mut self, field: &str, rule: FieldRule) -> Result<(), OutOfMemory>
-        requires { IsRule rule }
         ensures ok { OnOk result (self.new ≡ map.insert self.old field.now rule) }
         ensures err { OnErr result (self.new ≡ self.old) }
     {
@@ -51,17 +47,9 @@ impl Dict {
 
     /// The rule of a field: where none was set, TEXT, not indexed and not reversed.
     pub fn look(&self, field: &str) -> FieldRule
-        ensures value { result ≡ rule_of self.now field.now }
-        ensures rule { IsRule result }
+        ensures { result ≡ rule_of self.now field.now }
     {
-        match self.rules.get(field) {
-            Some(rule) => *rule,
-            None => FieldRule {
-                kind: Kind::Text,
-                indexed: false,
-                reversed: false,
-            },
-        }
+        self.rules.get(field).copied().unwrap_or(undefined())
     }
 
     /// An equal dictionary of its own.
@@ -73,6 +61,17 @@ impl Dict {
             alloc: self.alloc,
             rules,
         })
+    }
+}
+
+/// The rule of a field that was not defined.
+fn undefined() -> FieldRule
+    ensures { result ≡ undefined_rule }
+{
+    FieldRule {
+        kind: Kind::Text,
+        indexed: false,
+        reversed: false,
     }
 }
 

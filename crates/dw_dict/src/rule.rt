@@ -1,18 +1,37 @@
-ghost use Rattle.std.specs.Prelude.{◌≡◌, ◌↔◌, IsTrue};
-ghost use Rattle.dw_dict.specs.Rules.{Widens, widens};
+ghost use Rattle.std.specs.Prelude.{◌≡◌, ◌↔◌, IsTrue, IfSome, IsNone, false};
 
 use dw_norm::Kind;
 
 /// What is known of a field: the kind of its values, whether they are indexed, and whether they are indexed
-/// back to front too.
+/// back to front too, which stands only with the first.
 #[derive(Clone, Copy, Debug, PartialEq, Eq)]
 pub struct FieldRule {
     pub kind: Kind,
     pub indexed: bool,
     pub reversed: bool,
+    pub ghost ruled: { IsTrue reversed → IsTrue indexed },
 }
 
 impl FieldRule {
+    ghost use Rattle.dw_dict.specs.Rules.{Widens, widens};
+
+    /// The rule of these parts, or none where values would be indexed back to front alone.
+    pub fn of(kind: Kind, indexed: bool, reversed: bool) -> Option<FieldRule>
+        ensures kind { IfSome result (λ rule. rule.kind ≡ kind) }
+        ensures indexed { IfSome result (λ rule. rule.indexed ≡ indexed) }
+        ensures reversed { IfSome result (λ rule. rule.reversed ≡ reversed) }
+        ensures none { IsNone result ↔ (IsTrue reversed × (indexed ≡ false)) }
+    {
+        if reversed && !indexed {
+            return None;
+        }
+        Some(FieldRule {
+            kind,
+            indexed,
+            reversed,
+        })
+    }
+
     /// Whether values of the same kind are indexed at least as the old rule says.
     pub fn widens(&self, old: &FieldRule) -> bool
         ensures rule { IsTrue result ↔ Widens self.now old.now }

@@ -6,7 +6,8 @@ use Rattle.std.specs.List.{list_all, join_with_byte}
 use Rattle.std.specs.Char.{is_ascii_digit}
 use Rattle.std.proofs.lemmas.Bool.{and_parts, leb-true}
 use Rattle.std.proofs.lemmas.Option.{cond_some}
-use Rattle.dw_norm.specs.Digits.{numeral, decimal}
+use Rattle.std.specs.Str.Parse.{digits_value}
+use Rattle.dw_norm.specs.Digits.{decimal}
 use Rattle.dw_norm.specs.Addresses.{is_group, is_address, address_of, norm_address}
 use Rattle.dw_norm.specs.Laws.{AddressesKeepOrder}
 use Rattle.dw_norm.proofs.Orders.{then_Equal, slice_cmp-append}
@@ -31,11 +32,11 @@ join_order m n (l ∷ ms) (k ∷ ns) e p q ps qs =
     digits_decide 3 m n (46 ∷ join_with_byte 46 (map (decimal 3) (l ∷ ms))) (46 ∷ join_with_byte 46 (map (decimal 3) (k ∷ ns))) p q
     ∙ ap (ordering_then (nat_cmp m n)) (join_order l k ms ns (omega arith) ps.0 qs.0 ps.1 qs.1)
 
-group_below : (g : List ℕ) → is_group g ≡ true → numeral g < 10 ^ 3
+group_below : (g : List ℕ) → is_group g ≡ true → digits_value 10 g < 10 ^ 3
 unfolding is_group
 group_below g h =
-    let last = and_parts (leb 1 (length g) && leb (length g) 3 && list_all is_ascii_digit g) (leb (numeral g) 255) h in
-    let small = leb-true (numeral g) 255 last.1 in
+    let last = and_parts (leb 1 (length g) && leb (length g) 3 && list_all is_ascii_digit g) (leb (digits_value 10 g) 255) h in
+    let small = leb-true (digits_value 10 g) 255 last.1 in
     omega arith
 
 -- the text of an address, and its groups fit
@@ -43,7 +44,7 @@ address_parts : (raw x : List ℕ) → norm_address raw ≡ Some x → (is_addre
 unfolding norm_address
 address_parts raw x e = cond_some (is_address raw) (join_with_byte 46 (map (decimal 3) (address_of raw))) x e
 
-groups_below : (a b c d : List ℕ) → list_all is_group (a ∷ b ∷ c ∷ d ∷ []) ≡ true → (numeral a < 10 ^ 3) × all_below (numeral b ∷ numeral c ∷ numeral d ∷ [])
+groups_below : (a b c d : List ℕ) → list_all is_group (a ∷ b ∷ c ∷ d ∷ []) ≡ true → (digits_value 10 a < 10 ^ 3) × all_below (digits_value 10 b ∷ digits_value 10 c ∷ digits_value 10 d ∷ [])
 unfolding all_below
 groups_below a b c d h =
     let first = and_parts (is_group a) (list_all is_group (b ∷ c ∷ d ∷ [])) h in

@@ -4,15 +4,13 @@ use Rattle.std.specs.Ordering.{nat_cmp, ordering_then}
 use Rattle.std.specs.Option.{option_map}
 use Rattle.std.specs.Cmp.Lexicographic.{slice_cmp}
 use Rattle.std.proofs.lemmas.Option.{none-some, same_Some}
-use Rattle.dw_norm.specs.declared.calendar.Day.{Day}
-use Rattle.dw_norm.specs.declared.calendar.Moment.{Moment}
 use Rattle.dw_norm.specs.Digits.{decimal}
-use Rattle.dw_norm.specs.Calendar.{IsDay, IsMoment, day_number, instant, moment_at}
+use Rattle.dw_norm.specs.Calendar.{Day, Moment, IsDay, IsMoment, day_number, instant, moment_at}
 use Rattle.dw_norm.specs.Dates.{moment_text, instant_of, is_date, norm_date}
 use Rattle.dw_norm.specs.Laws.{InstantsKeepOrder}
 use Rattle.dw_norm.proofs.Orders.{then_Equal, ordering_then-assoc, by_parts}
 use Rattle.dw_norm.proofs.Addresses.{digits_decide}
-use Rattle.dw_norm.proofs.Days.{by_year_month_day, moments_told, month_days-le}
+use Rattle.dw_norm.proofs.DayNumbers.{by_year_month_day, moments_told, month_days-le}
 
 right_first : (a b c d e f g : List ℕ) → a ++ b ++ c ++ d ++ e ++ f ++ g ≡ a ++ (b ++ (c ++ (d ++ (e ++ (f ++ g)))))
 right_first a b c d e f g = simp append_assoc

@@ -1,10 +1,12 @@
 pub mod Runs
 pub mod Orders
 pub mod Decimals
-pub mod Days
+pub mod DayNumbers
+pub mod Civil
+pub mod ReadDates
 pub mod Addresses
 pub mod Dates
 pub mod Numbers
-pub mod ReadDates
 pub mod Zeros
 pub mod Wholes
+pub mod Reversals

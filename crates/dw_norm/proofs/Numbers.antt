@@ -14,7 +14,8 @@ use Rattle.std.proofs.lemmas.Nat.{pow-add}
 use Rattle.std.proofs.lemmas.Bool.{cases_lt, and_parts, leb-true, ne_eqb, eq-eqb}
 use Rattle.std.proofs.lemmas.List.Folds.{list_all-append}
 use Rattle.std.proofs.lemmas.Option.{cond_some}
-use Rattle.dw_norm.specs.Digits.{numeral_after, numeral, decimal, is_fraction}
+use Rattle.std.specs.Str.Parse.{digits_value_after, digits_value}
+use Rattle.dw_norm.specs.Digits.{decimal, is_fraction}
 use Rattle.dw_norm.specs.Numbers.{sign_len, whole_part, fraction_part, decimals, is_number, magnitude, padded, number_of, nines, number_text, norm_number}
 use Rattle.dw_norm.specs.Laws.{NumbersKeepOrder}
 use Rattle.dw_norm.proofs.Runs.{numeral_after-append}
@@ -124,12 +125,12 @@ length-padded whole behind h =
     let e = length-zeros (9 - length behind) in
     omega (arith, h.whole_len, h.len_behind)
 
-numeral-padded : (whole behind : List ℕ) → IsWritten whole behind → numeral (padded whole behind) ≡ numeral whole * 10 ^ 9 + numeral behind * 10 ^ (9 - length behind)
+numeral-padded : (whole behind : List ℕ) → IsWritten whole behind → digits_value 10 (padded whole behind) ≡ digits_value 10 whole * 10 ^ 9 + digits_value 10 behind * 10 ^ (9 - length behind)
 numeral-padded whole behind h =
     numeral_after-append 0 (replicate (18 - length whole) 48 ++ whole ++ behind) (replicate (9 - length behind) 48)
-    ∙ numeral-zeros (9 - length behind) (numeral (replicate (18 - length whole) 48 ++ whole ++ behind))
+    ∙ numeral-zeros (9 - length behind) (digits_value 10 (replicate (18 - length whole) 48 ++ whole ++ behind))
     ∙ ap (λ n. n * 10 ^ (9 - length behind)) (front whole behind)
-    ∙ scaled (numeral whole) (numeral behind) (10 ^ length behind) (10 ^ (9 - length behind)) (10 ^ 9) power
+    ∙ scaled (digits_value 10 whole) (digits_value 10 behind) (10 ^ length behind) (10 ^ (9 - length behind)) (10 ^ 9) power
   where
     power : 10 ^ 9 ≡ 10 ^ length behind * 10 ^ (9 - length behind)
     power = let e : length behind + (9 - length behind) ≡ 9 = omega (arith, h.len_behind) in ap (λ k. 10 ^ k) (sym e) ∙ pow-add 10 (length behind) (9 - length behind)
@@ -137,11 +138,11 @@ numeral-padded whole behind h =
     none : (p : ℕ) → 0 * p ≡ 0
     none p = omega arith
 
-    front : (whole behind : List ℕ) → numeral (replicate (18 - length whole) 48 ++ whole ++ behind) ≡ numeral whole * 10 ^ length behind + numeral behind
+    front : (whole behind : List ℕ) → digits_value 10 (replicate (18 - length whole) 48 ++ whole ++ behind) ≡ digits_value 10 whole * 10 ^ length behind + digits_value 10 behind
     front whole behind =
         numeral_after-append 0 (replicate (18 - length whole) 48 ++ whole) behind
-        ∙ ap (λ n. numeral_after n behind) (numeral_after-append 0 (replicate (18 - length whole) 48) whole ∙ ap (λ n. numeral_after n whole) (numeral-zeros (18 - length whole) 0 ∙ none (10 ^ (18 - length whole))))
-        ∙ numeral_after-is (numeral whole) behind
+        ∙ ap (λ n. digits_value_after 10 n behind) (numeral_after-append 0 (replicate (18 - length whole) 48) whole ∙ ap (λ n. digits_value_after 10 n whole) (numeral-zeros (18 - length whole) 0 ∙ none (10 ^ (18 - length whole))))
+        ∙ numeral_after-is (digits_value 10 whole) behind
 
     scaled : (w b p q r : ℕ) → r ≡ p * q → (w * p + b) * q ≡ w * r + b * q
     scaled w b p q r e = rw e (grind arith)
@@ -158,7 +159,7 @@ pub magnitude-lt : (raw : List ℕ) → is_number raw ≡ true → magnitude raw
 unfolding magnitude
 magnitude-lt raw e =
     let h = is_written raw e in
-    let P : ℕ → Type 0 = λ w. numeral (padded (whole_part raw) (decimals raw)) < 10 ^ w in
+    let P : ℕ → Type 0 = λ w. digits_value 10 (padded (whole_part raw) (decimals raw)) < 10 ^ w in
     let Q : ℕ → Type 0 = λ m. m < 10 ^ 27 in
     subst Q (numeral-padded (whole_part raw) (decimals raw) h) (subst P (length-padded (whole_part raw) (decimals raw) h) (numeral-lt (padded (whole_part raw) (decimals raw)) (padded_passes (whole_part raw) (decimals raw) h)))
 

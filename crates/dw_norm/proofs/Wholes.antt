@@ -1,19 +1,20 @@
 -- Texts are read whole, and digits spell their numbers.
 use Rattle.std.proofs.Common.{◌≡◌, ℕ, zero, suc, ◌+◌, ◌-◌, ◌*◌, ◌/◌, ◌%◌, ◌^◌, ◌<◌, ◌≤◌, true, not, ◌&&◌, leb, List, [], ◌∷◌, ◌++◌, length, min, get_or, take, drop, refl, sym, ap, ◌∙◌, arith, append_assoc}
-use Rattle.std.specs.Char.{is_ascii_digit}
+use Rattle.std.specs.Char.{is_ascii_digit, digit_value}
 use Rattle.std.specs.List.{list_all, prefix_len, position_or_len, before_first, after_first, join_with_byte}
 use Rattle.std.proofs.Math.Nat as nat
 use Rattle.std.proofs.lemmas.Bool.{and_parts, and_from, leb-true, not-false, eqb-true}
 use Rattle.std.proofs.lemmas.List.{take-append-drop, length-take, length-drop}
 use Rattle.std.proofs.lemmas.List.Folds.{list_all-append}
 use Rattle.std.proofs.lemmas.List.Sums.{split_at_first, prefix_len_stops}
-use Rattle.dw_norm.specs.Digits.{numeral, decimal}
+use Rattle.std.specs.Str.Parse.{digits_value}
+use Rattle.dw_norm.specs.Digits.{decimal}
 use Rattle.dw_norm.specs.Numbers.{sign_len, whole_part, fraction_part}
 use Rattle.dw_norm.specs.Dates.{day_len, fraction_len, day_part, time_part, behind_time, second_part, zone_part}
 use Rattle.dw_norm.specs.Addresses.{is_point, groups, is_group, is_address}
 use Rattle.dw_norm.specs.Laws.{TextsAreReadWhole, DigitsSpellNumbers}
 use Rattle.dw_norm.proofs.Runs.{numeral_after-append}
-use Rattle.dw_norm.proofs.Decimals.{length-decimal}
+use Rattle.dw_norm.proofs.Decimals.{length-decimal, digit_is}
 
 whole_date : (raw : List ℕ) → day_part raw ++ time_part raw ++ second_part raw ++ zone_part raw ≡ raw
 whole_date raw =
@@ -40,7 +41,7 @@ parted xs some =
 some_in : (g : List ℕ) → is_group g ≡ true → 1 ≤ length g
 unfolding is_group
 some_in g h =
-    let last = and_parts (leb 1 (length g) && leb (length g) 3 && list_all is_ascii_digit g) (leb (numeral g) 255) h in
+    let last = and_parts (leb 1 (length g) && leb (length g) 3 && list_all is_ascii_digit g) (leb (digits_value 10 g) 255) h in
     let third = and_parts (leb 1 (length g) && leb (length g) 3) (list_all is_ascii_digit g) last.0 in
     leb-true 1 (length g) (and_parts (leb 1 (length g)) (leb (length g) 3) third.0).0
 
@@ -67,19 +68,20 @@ whole_address raw h =
 pub texts_whole : TextsAreReadWhole
 texts_whole raw = (whole_date raw, whole_number raw, whole_address raw)
 
-numeral-decimal : (w n : ℕ) → n < 10 ^ w → numeral (decimal w n) ≡ n
+digit_passes : (n : ℕ) → is_ascii_digit (48 + n % 10) ≡ true
+digit_passes n = grind arith
+
+numeral-decimal : (w n : ℕ) → n < 10 ^ w → digits_value 10 (decimal w n) ≡ n
 unfolding decimal
 numeral-decimal zero n h = omega arith
 numeral-decimal (suc w) n h =
     let power = nat.pow-suc 10 w in
     let fits : n / 10 < 10 ^ w = omega arith in
     let rest = numeral-decimal w (n / 10) fits in
+    let last = digit_is (48 + n % 10) (digit_passes n) in
     numeral_after-append 0 (decimal w (n / 10)) ((48 + n % 10) ∷ [])
-    ∙ ap (λ k. 10 * k + (48 + n % 10 - 48)) rest
-    ∙ omega arith
-
-digit_passes : (n : ℕ) → is_ascii_digit (48 + n % 10) ≡ true
-digit_passes n = grind arith
+    ∙ ap (λ k. k * 10 + digit_value (48 + n % 10)) rest
+    ∙ omega (arith, last)
 
 decimal_passes : (w n : ℕ) → list_all is_ascii_digit (decimal w n) ≡ true
 unfolding decimal

@@ -28,11 +28,11 @@ use Rattle.unicode_normalization.proofs.FormsLemmas.{normalize-Nfd}
 use Rattle.caseless.specs.Caseless.{default_case_fold}
 use Rattle.dw_norm.specs.declared.kind.Kind.{Kind}
 use Rattle.dw_norm.specs.declared.kind.Kind.TheVariants.{Text, Noop, Number, Date, Ipv4}
-use Rattle.dw_norm.specs.declared.calendar.Moment.{Moment}
 use Rattle.dw_norm.specs.Digits.{decimal}
 use Rattle.dw_norm.specs.Unchanged.{unless_empty}
 use Rattle.dw_norm.specs.NormalText.{is_no_mark, norm_text}
 use Rattle.dw_norm.specs.Numbers.{is_number, number_of, nines, number_text, norm_number}
+use Rattle.dw_norm.specs.Calendar.{Moment}
 use Rattle.dw_norm.specs.Dates.{moment_text, norm_date}
 use Rattle.dw_norm.specs.Addresses.{is_address, address_of, norm_address}
 use Rattle.dw_norm.specs.Reversal.{rev}

@@ -1,15 +1,17 @@
--- The Gregorian calendar, carried back to the year 1.
-use Rattle.std.specs.Prelude.{◌≡◌, ℕ, zero, suc, ◌+◌, ◌-◌, ◌*◌, ◌/◌, ◌%◌, ◌==◌, ◌<◌, ◌≤◌, Bool, not, ◌&&◌, ◌||◌, nat_lt, nat_le, if◌then◌else◌, Option, Some, None}
-use Rattle.dw_norm.specs.declared.calendar.Day.{Day}
-use Rattle.dw_norm.specs.declared.calendar.Moment.{Moment}
+-- The days of the calendar one after another, and the seconds of each.
+use Rattle.std.specs.Prelude.{ℕ, zero, suc, ◌+◌, ◌-◌, ◌*◌, ◌/◌, ◌%◌, ◌<◌, ◌≤◌, ◌&&◌, nat_lt, nat_le, if◌then◌else◌, Option, Some, None}
+use Rattle.dw_base.specs.Days.{month_days}
 
--- each fourth year, but of those that end a century only each fourth
-abbrev pub is_leap : ℕ → Bool
-is_leap year = (year % 4 == 0) && (not (year % 100 == 0) || (year % 400 == 0))
+-- a day by its year, its month from 1 and its day from 1
+pub record Day : Type 0 where
+  pub year : ℕ
+  pub month : ℕ
+  pub day : ℕ
 
--- the days of a month
-abbrev pub month_days : ℕ → ℕ → ℕ
-month_days year month = if month == 2 then (if is_leap year then 29 else 28) else (if (month == 4) || (month == 6) || (month == 9) || (month == 11) then 30 else 31)
+-- a second of a day, from 0 to 86,399
+pub record Moment : Type 0 where
+  pub day : Day
+  pub second : ℕ
 
 -- a day of the calendar
 pub record IsDay (d : Day) : Type 0 where
@@ -18,12 +20,6 @@ pub record IsDay (d : Day) : Type 0 where
   pub month_to : d.month ≤ 12
   pub day_from : 1 ≤ d.day
   pub day_to : d.day ≤ month_days d.year d.month
-
--- 1 January of the year 1
-pub record IsFirstDay (d : Day) : Type 0 where
-  pub year : d.year ≡ 1
-  pub month : d.month ≡ 1
-  pub day : d.day ≡ 1
 
 -- the days of the first so many months of a year
 unfoldable pub days_of_months : ℕ → ℕ → ℕ

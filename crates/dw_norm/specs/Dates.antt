@@ -1,12 +1,12 @@
 -- Dates as they are written, and their normal form.
-use Rattle.std.specs.Prelude.{ℕ, ◌+◌, ◌-◌, ◌*◌, ◌/◌, ◌%◌, ◌==◌, Bool, ◌&&◌, ◌||◌, nat_le, if◌then◌else◌, List, [], ◌∷◌, ◌++◌, length, take, drop, slice_index, slice_range, codes, Option, None}
+use Rattle.std.specs.Prelude.{ℕ, ◌+◌, ◌-◌, ◌*◌, ◌/◌, ◌%◌, ◌==◌, Bool, ◌&&◌, ◌||◌, nat_le, if◌then◌else◌, List, [], ◌∷◌, ◌++◌, take, drop, slice_index, slice_range, codes, Option, None}
 use Rattle.std.specs.Char.{is_ascii_digit}
 use Rattle.std.specs.List.{prefix_len}
-use Rattle.std.specs.Option.{option_map}
-use Rattle.dw_norm.specs.Digits.{numeral, decimal, has_layout, is_fraction}
-use Rattle.dw_norm.specs.Calendar.{month_days, day_number, moment_at}
-use Rattle.dw_norm.specs.declared.calendar.Day.{Day}
-use Rattle.dw_norm.specs.declared.calendar.Moment.{Moment}
+use Rattle.std.specs.Option.{option_map, is_some}
+use Rattle.std.specs.Str.Parse.{digits_value}
+use Rattle.dw_norm.specs.Digits.{decimal, has_layout, is_fraction}
+use Rattle.dw_base.specs.Days.{is_dashed, without_dashes, day_digits}
+use Rattle.dw_norm.specs.Calendar.{Day, Moment, day_number, moment_at}
 
 -- how long the day is; 45 is `-`
 abbrev pub day_len : List ℕ → ℕ
@@ -36,37 +36,33 @@ second_part raw = take (fraction_len (behind_time raw)) (behind_time raw)
 abbrev pub zone_part : List ℕ → List ℕ
 zone_part raw = drop (fraction_len (behind_time raw)) (behind_time raw)
 
--- the day that is written with a gap of so many bytes between its parts
-abbrev pub day_with_gap : ℕ → List ℕ → Day
-day_with_gap gap text = record { year = numeral (take 4 text); month = numeral (slice_range text (4 + gap) (6 + gap)); day = numeral (slice_range text (6 + 2 * gap) (8 + 2 * gap)) }
-
--- the day that a text of 10 or 8 bytes spells
+-- the day that eight digits name
 abbrev pub day_of : List ℕ → Day
-day_of text = day_with_gap (if length text == 10 then 1 else 0) text
+day_of digits = record { year = digits_value 10 (take 4 digits); month = digits_value 10 (take 2 (drop 4 digits)); day = digits_value 10 (drop 6 digits) }
 
--- a day of the calendar, in a year from 1 on
-abbrev pub names_day : Day → Bool
-names_day d = nat_le 1 d.year && nat_le 1 d.month && nat_le d.month 12 && nat_le 1 d.day && nat_le d.day (month_days d.year d.month)
-
--- `yyyyMMdd` or `yyyy-MM-dd`, naming a day
-unfoldable pub is_day_text : List ℕ → Bool
-is_day_text text = (has_layout (codes "00000000") text || has_layout (codes "0000-00-00") text) && names_day (day_of text)
+-- the digits of a day, also where it is written with `-` between them
+abbrev pub undashed : List ℕ → List ℕ
+undashed text = if is_dashed text then without_dashes text else text
 
 -- hours and minutes in seconds, written as two digits, one byte and two digits behind one byte
 abbrev pub minutes_of : List ℕ → ℕ
-minutes_of text = 3600 * numeral (slice_range text 1 3) + 60 * numeral (slice_range text 4 6)
+minutes_of text = 3600 * digits_value 10 (slice_range text 1 3) + 60 * digits_value 10 (slice_range text 4 6)
 
 -- hours to 23, and minutes to 59
 abbrev pub names_minute : List ℕ → Bool
-names_minute text = nat_le (numeral (slice_range text 1 3)) 23 && nat_le (numeral (slice_range text 4 6)) 59
+names_minute text = nat_le (digits_value 10 (slice_range text 1 3)) 23 && nat_le (digits_value 10 (slice_range text 4 6)) 59
 
 -- the second of the day
 abbrev pub second_of : List ℕ → ℕ
-second_of text = minutes_of text + numeral (slice_range text 7 9)
+second_of text = minutes_of text + digits_value 10 (slice_range text 7 9)
 
--- nothing, or `T` or a space and then `HH:mm:ss`
+-- nothing, or `T` or a space and then `HH:mm:ss`, each place a digit
+abbrev pub has_time_layout : List ℕ → Bool
+has_time_layout text = has_layout [] text || has_layout (codes "T00:00:00") text || has_layout (codes " 00:00:00") text
+
+-- the same with hours to 23, and minutes and seconds to 59
 unfoldable pub is_time_text : List ℕ → Bool
-is_time_text text = (has_layout [] text || has_layout (codes "T00:00:00") text || has_layout (codes " 00:00:00") text) && names_minute text && nat_le (numeral (slice_range text 7 9)) 59
+is_time_text text = has_time_layout text && names_minute text && nat_le (digits_value 10 (slice_range text 7 9)) 59
 
 -- nothing, `Z`, `+hh:mm` or `-hh:mm`
 unfoldable pub is_zone_text : List ℕ → Bool
@@ -74,11 +70,11 @@ is_zone_text text = (has_layout [] text || has_layout (codes "Z") text || has_la
 
 -- a day; behind it a time or nothing; and behind a time a fraction of a second, a zone, both or neither
 unfoldable pub is_date : List ℕ → Bool
-is_date raw = is_day_text (day_part raw) && is_time_text (time_part raw) && is_fraction (second_part raw) && is_zone_text (zone_part raw)
+is_date raw = is_some (day_digits (day_part raw)) && is_time_text (time_part raw) && is_fraction (second_part raw) && is_zone_text (zone_part raw)
 
 -- the second in which the date begins, by a clock that shows the local time, and its fraction dropped
 abbrev pub local_instant : List ℕ → ℕ
-local_instant raw = day_number (day_of (day_part raw)) * 86_400 + second_of (time_part raw)
+local_instant raw = day_number (day_of (undashed (day_part raw))) * 86_400 + second_of (time_part raw)
 
 -- what a clock in UTC shows when one in the zone shows a local time: the offset less where the zone is ahead; 43 is `+`
 abbrev pub in_utc : List ℕ → ℕ → ℕ

@@ -1,17 +1,8 @@
 -- Decimal digits, as bytes of a text; 48 is the code of the digit 0.
-use Rattle.std.specs.Prelude.{ℕ, zero, suc, ◌+◌, ◌-◌, ◌*◌, ◌/◌, ◌%◌, ◌==◌, Bool, ◌&&◌, ◌||◌, nat_le, if◌then◌else◌, List, [], ◌∷◌, ◌++◌, length, drop, slice_index}
+use Rattle.std.specs.Prelude.{ℕ, zero, suc, ◌+◌, ◌/◌, ◌%◌, ◌==◌, Bool, ◌&&◌, ◌||◌, nat_le, if◌then◌else◌, List, [], ◌∷◌, ◌++◌, length, drop, slice_index}
 use Rattle.std.specs.Char.{is_ascii_digit}
 use Rattle.std.specs.List.{list_all}
 use Rattle.std.specs.Cmp.Lexicographic.{pointwise}
-
--- the number that digits spell, the highest first, behind a number that is spelled already
-abbrev pub numeral_after : ℕ → List ℕ → ℕ
-numeral_after n [] = n
-numeral_after n (d ∷ ds) = numeral_after (10 * n + (d - 48)) ds
-
--- the number that digits spell, the highest first
-abbrev pub numeral : List ℕ → ℕ
-numeral ds = numeral_after 0 ds
 
 -- the lowest so many digits of a number, the highest of them first
 unfoldable pub decimal : ℕ → ℕ → List ℕ

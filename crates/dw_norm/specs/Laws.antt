@@ -1,19 +1,19 @@
 -- What holds of all normal forms.
-use Rattle.std.specs.Prelude.{◌≡◌, ◌≢◌, ◌↔◌, ℕ, ◌-◌, ◌^◌, ◌<◌, true, List, ◌++◌, length, take, Some, All, IsUtf8}
+use Rattle.std.specs.Prelude.{◌≡◌, ◌≢◌, ◌↔◌, ℕ, ◌-◌, ◌^◌, ◌<◌, true, List, ◌++◌, length, take, Some, All, IsUtf8, nat_eq}
 use Rattle.std.specs.Ordering.{nat_cmp, int_cmp}
 use Rattle.std.specs.Cmp.Lexicographic.{slice_cmp}
 use Rattle.std.specs.Char.{is_ascii_digit}
-use Rattle.std.specs.List.{list_all, join_with_byte}
+use Rattle.std.specs.List.{list_all, starts_with, ends_with, join_with_byte}
 use Rattle.dw_norm.specs.declared.kind.Kind.{Kind}
 use Rattle.dw_norm.specs.declared.kind.Kind.TheVariants.{Number, Date, Ipv4}
-use Rattle.dw_norm.specs.Digits.{numeral, decimal}
+use Rattle.std.specs.Str.Parse.{digits_value}
+use Rattle.dw_norm.specs.Digits.{decimal}
 use Rattle.dw_norm.specs.Numbers.{sign_len, whole_part, fraction_part, number_of, nines}
-use Rattle.dw_norm.specs.Calendar.{IsMoment, instant, moment_at}
+use Rattle.dw_norm.specs.Calendar.{Moment, IsMoment, instant, moment_at}
 use Rattle.dw_norm.specs.Dates.{day_part, time_part, second_part, zone_part, instant_of}
 use Rattle.dw_norm.specs.Addresses.{groups, is_address, address_of}
 use Rattle.dw_norm.specs.Normal.{norm}
 use Rattle.dw_norm.specs.Reversal.{rev}
-use Rattle.dw_norm.specs.declared.calendar.Moment.{Moment}
 
 -- normal forms of numbers compare as lists of unsigned bytes as the numbers do
 abbrev pub NumbersKeepOrder : Type 0
@@ -43,10 +43,18 @@ NoZeroIsMade = (kind : Kind) (raw x : List ℕ) → IsUtf8 raw → All (λ b. b 
 abbrev pub NoZeroIsReversed : Type 0
 NoZeroIsReversed = (raw : List ℕ) → IsUtf8 raw → All (λ b. b ≢ 0) raw → All (λ b. b ≢ 0) (rev raw)
 
+-- a text reversed twice is the text
+abbrev pub ReversalTakesBack : Type 0
+ReversalTakesBack = (text : List ℕ) → IsUtf8 text → rev (rev text) ≡ text
+
+-- a text ends with another exactly where the first, reversed, begins with the second, reversed
+abbrev pub EndsAreFrontsReversed : Type 0
+EndsAreFrontsReversed = (text end : List ℕ) → IsUtf8 text → IsUtf8 end → ends_with nat_eq text end ≡ starts_with nat_eq (rev text) (rev end)
+
 -- the parts of a date, of a number, and, with points between them, of an address are the whole text
 abbrev pub TextsAreReadWhole : Type 0
 TextsAreReadWhole = (raw : List ℕ) → (day_part raw ++ time_part raw ++ second_part raw ++ zone_part raw ≡ raw) × (take (sign_len raw) raw ++ whole_part raw ++ fraction_part raw ≡ raw) × (is_address raw ≡ true → join_with_byte 46 (groups raw) ≡ raw)
 
 -- so many digits of a number that they suffice for are so many, are digits, and spell it
 abbrev pub DigitsSpellNumbers : Type 0
-DigitsSpellNumbers = (width n : ℕ) → n < 10 ^ width → (length (decimal width n) ≡ width) × (list_all is_ascii_digit (decimal width n) ≡ true) × (numeral (decimal width n) ≡ n)
+DigitsSpellNumbers = (width n : ℕ) → n < 10 ^ width → (length (decimal width n) ≡ width) × (list_all is_ascii_digit (decimal width n) ≡ true) × (digits_value 10 (decimal width n) ≡ n)

@@ -3,6 +3,7 @@ pub mod Unchanged
 pub mod NormalText
 pub mod Numbers
 pub mod Calendar
+pub mod Civil
 pub mod Dates
 pub mod Addresses
 pub mod Reversal

@@ -2,7 +2,8 @@
 use Rattle.std.specs.Prelude.{ℕ, suc, ◌+◌, ◌-◌, ◌*◌, ◌^◌, ◌==◌, ℤ, pos, negsuc, neg_ℤ, Bool, ◌&&◌, ◌||◌, nat_le, if◌then◌else◌, List, ◌∷◌, ◌++◌, replicate, map, length, take, drop, slice_index, Option, Some, None}
 use Rattle.std.specs.Char.{is_ascii_digit}
 use Rattle.std.specs.List.{prefix_len}
-use Rattle.dw_norm.specs.Digits.{numeral, decimal, is_fraction}
+use Rattle.std.specs.Str.Parse.{digits_value}
+use Rattle.dw_norm.specs.Digits.{decimal, is_fraction}
 
 -- how many bytes the sign takes; 43 is `+` and 45 is `-`
 abbrev pub sign_len : List ℕ → ℕ
@@ -26,7 +27,7 @@ is_number raw = nat_le 1 (length (whole_part raw)) && nat_le (length (whole_part
 
 -- the number without its sign, in units of the ninth decimal
 unfoldable pub magnitude : List ℕ → ℕ
-magnitude raw = numeral (whole_part raw) * 10 ^ 9 + numeral (decimals raw) * 10 ^ (9 - length (decimals raw))
+magnitude raw = digits_value 10 (whole_part raw) * 10 ^ 9 + digits_value 10 (decimals raw) * 10 ^ (9 - length (decimals raw))
 
 -- the digits before and behind the point, with zeros up to 18 and 9 digits
 abbrev pub padded : List ℕ → List ℕ → List ℕ

@@ -3,7 +3,8 @@
 ghost use Rattle.std.specs.Prelude.{◌≡◌, ◌++◌, ◌≤◌, map, length, IsTrue, string_bytes, IfOk, OnOk};
 ghost use Rattle.std.specs.Option.{option_map};
 ghost use Rattle.std.specs.List.{before_first, after_first, position_or_len, join_with_byte};
-ghost use Rattle.dw_norm.specs.Digits.{numeral as numeral_of, decimal};
+ghost use Rattle.std.specs.Str.Parse.{digits_value};
+ghost use Rattle.dw_norm.specs.Digits.{decimal};
 ghost use Rattle.dw_norm.specs.Addresses.{is_point, is_group as text_is_group, is_address as text_is_address, address_of, norm_address};
 
 use crate::OutOfMemory;
@@ -76,7 +77,7 @@ fn is_address(raw: &[u8]) -> bool
 #[tactic(auto, unfolding(crate::specs::Addresses::is_group))]
 fn put_group(out: &mut String, group: &[u8]) -> Result<(), OutOfMemory>
     requires { IsTrue (text_is_group group.now) }
-    ensures { OnOk result (string_bytes out.new ≡ string_bytes out.old ++ decimal 3 (numeral_of group.now)) }
+    ensures { OnOk result (string_bytes out.new ≡ string_bytes out.old ++ decimal 3 (digits_value 10 group.now)) }
 {
     put_three(out, numeral(group))
 }

@@ -1,26 +1,30 @@
 //! Dates as they are written, and their normal form.
 
-ghost use Rattle.std.specs.Prelude.{◌≡◌, ◌+◌, ◌-◌, ◌*◌, ◌<◌, ◌≤◌, ◌==◌, IsTrue, length, slice_index, slice_range, string_bytes, take, drop, IfOk, OnOk, ◌++◌, ◌∷◌, ◌/◌, ◌%◌};
-ghost use Rattle.dw_norm.specs.Digits.{numeral as numeral_of, decimal};
-ghost use Rattle.std.specs.Option.{option_map};
-ghost use Rattle.dw_norm.specs.Calendar.{IsDay, day_number, moment_at};
-ghost use Rattle.dw_norm.specs.Dates.{day_len as day_len_of, fraction_len as fraction_len_of, day_part as day_part_of, time_part as time_part_of, behind_time as behind_time_of, second_part as second_part_of, zone_part as zone_part_of, day_of as day_of_text, names_day as is_named_day, is_day_text as text_is_day, minutes_of as minutes_of_text, names_minute as text_names_minute, second_of as second_of_text, is_time_text as text_is_time, is_zone_text as text_is_zone, is_date as text_is_date, in_utc, instant_of, moment_text as text_of_moment, norm_date};
+ghost use Rattle.std.specs.Prelude.{◌≡◌, ◌+◌, ◌-◌, ◌*◌, ◌<◌, ◌≤◌, ◌==◌, ◌||◌, IsTrue, length, slice_index, slice_range, string_bytes, take, drop, IfOk, IfSome, OnOk, ◌++◌, ◌∷◌};
+ghost use Rattle.std.specs.Option.{option_map, is_some};
+ghost use Rattle.std.specs.Str.Parse.{digits_value};
+ghost use Rattle.dw_norm.specs.Digits.{decimal};
+ghost use Rattle.dw_norm.specs.Calendar.{instant, moment_at};
+ghost use Rattle.dw_norm.specs.Civil.{plain_day, plain_moment, IsSecond};
+ghost use Rattle.dw_norm.specs.Dates.{day_len as day_len_of, fraction_len as fraction_len_of, day_part as day_part_of, time_part as time_part_of, behind_time as behind_time_of, second_part as second_part_of, zone_part as zone_part_of, minutes_of as minutes_of_text, names_minute as text_names_minute, second_of, has_time_layout as text_has_time_layout, is_time_text, is_zone_text as text_is_zone, is_date, local_instant, in_utc as instant_in_utc, moment_text as text_of_moment, norm_date};
 
 use crate::OutOfMemory;
-use crate::calendar::{Day, Moment, days_of_month, earlier, later};
+use crate::calendar::{earlier, later};
+use crate::days::date_in;
 use crate::digits::{digits_len, has_layout, is_fraction, numeral, put, put_four, put_two};
+use jiff::civil::{Date, DateTime, Time};
 use std::alloc::Global;
 
 /// The normal form of a date, or none where the text is no date or names no moment of the years 1
 /// to 9999 in UTC.
-#[tactic(auto, unfolding(crate::specs::Dates::norm_date))]
+#[tactic(auto, unfolding(crate::specs::Dates::norm_date, crate::specs::Dates::instant_of))]
 pub(crate) fn normal_date(alloc: Global, raw: &[u8]) -> Result<Option<String>, OutOfMemory>
     ensures { IfOk result (λ r. option_map string_bytes r ≡ norm_date raw.now) }
 {
-    if !is_date(raw) {
+    let Some(local) = local_moment(raw) else {
         return Ok(None);
-    }
-    match moment_of(raw) {
+    };
+    match in_utc(local, zone_part(raw)) {
         None => Ok(None),
         Some(moment) => Ok(Some(moment_text(alloc, moment)?)),
     }
@@ -98,38 +102,9 @@ fn zone_part(raw: &[u8]) -> &[u8]
 /// The number that the digits between two places spell, at most four.
 fn number_at(text: &[u8], from: usize, to: usize) -> u32
     requires { to ≤ from + 4 }
-    ensures { result ≡ numeral_of (slice_range text.now from to) }
+    ensures { result ≡ digits_value 10 (slice_range text.now from to) }
 {
     numeral(front(behind(text, from), to.saturating_sub(from)))
-}
-
-/// The day that a text of 10 or 8 bytes spells.
-fn day_of(text: &[u8]) -> Day
-    ensures { result ≡ day_of_text text.now }
-{
-    let gap = if text.len() == 10 { 1 } else { 0 };
-    Day {
-        year: number_at(text, 0, 4),
-        month: number_at(text, 4 + gap, 6 + gap),
-        day: number_at(text, 6 + 2 * gap, 8 + 2 * gap),
-    }
-}
-
-fn names_day(d: Day) -> bool
-    ensures { result ≡ is_named_day d }
-{
-    1 <= d.year
-        && 1 <= d.month
-        && d.month <= 12
-        && 1 <= d.day
-        && d.day <= days_of_month(d.year, d.month)
-}
-
-#[tactic(auto, unfolding(crate::specs::Dates::is_day_text))]
-fn is_day_text(text: &[u8]) -> bool
-    ensures { result ≡ text_is_day text.now }
-{
-    (has_layout(b"00000000", text) || has_layout(b"0000-00-00", text)) && names_day(day_of(text))
 }
 
 /// Hours and minutes in seconds.
@@ -147,13 +122,26 @@ fn names_minute(text: &[u8]) -> bool
     number_at(text, 1, 3) <= 23 && number_at(text, 4, 6) <= 59
 }
 
-#[tactic(auto, unfolding(crate::specs::Dates::is_time_text))]
-fn is_time_text(text: &[u8]) -> bool
-    ensures { result ≡ text_is_time text.now }
+fn has_time_layout(text: &[u8]) -> bool
+    ensures { result ≡ text_has_time_layout text.now }
 {
-    (has_layout(b"", text) || has_layout(b"T00:00:00", text) || has_layout(b" 00:00:00", text))
-        && names_minute(text)
-        && number_at(text, 7, 9) <= 59
+    has_layout(b"", text) || has_layout(b"T00:00:00", text) || has_layout(b" 00:00:00", text)
+}
+
+/// The time of day, midnight where none is written, or none where the text is no time.
+#[tactic(auto, unfolding(crate::specs::Dates::is_time_text))]
+fn time_in(text: &[u8]) -> Option<Time>
+    ensures exists { is_some result ≡ is_time_text text.now }
+    ensures second { IfSome result (λ t. t.hour * 3600 + t.minute * 60 + t.second ≡ second_of text.now) }
+    ensures whole { IfSome result (λ t. t.subsec_nanosecond ≡ 0) }
+{
+    let hour = number_at(text, 1, 3);
+    let minute = number_at(text, 4, 6);
+    let second = number_at(text, 7, 9);
+    if !has_time_layout(text) || 23 < hour || 59 < minute || 59 < second {
+        return None;
+    }
+    Time::new(hour as i8, minute as i8, second as i8, 0).ok()
 }
 
 #[tactic(auto, unfolding(crate::specs::Dates::is_zone_text))]
@@ -167,81 +155,66 @@ fn is_zone_text(text: &[u8]) -> bool
         && names_minute(text)
 }
 
-#[tactic(auto, unfolding(crate::specs::Dates::is_date))]
-fn is_date(raw: &[u8]) -> bool
-    ensures { result ≡ text_is_date raw.now }
+/// The moment that a clock shows in the zone of the date, its fraction of a second dropped, or none
+/// where the text is no date.
+#[tactic(auto, unfolding(crate::specs::Dates::is_date), using(crate::proofs::ReadDates::zone_named))]
+fn local_moment(raw: &[u8]) -> Option<DateTime>
+    ensures exists { is_some result ≡ is_date raw.now }
+    ensures second { IfSome result IsSecond }
+    ensures value { IfSome result (λ t. instant (plain_moment t) ≡ local_instant raw.now) }
+    ensures zone { IfSome result (λ _. IsTrue (text_names_minute (zone_part_of raw.now))) }
 {
-    is_day_text(day_part(raw))
-        && is_time_text(time_part(raw))
-        && is_fraction(second_part(raw))
-        && is_zone_text(zone_part(raw))
+    let date = date_in(day_part(raw))?;
+    let time = time_in(time_part(raw))?;
+    if !is_fraction(second_part(raw)) || !is_zone_text(zone_part(raw)) {
+        return None;
+    }
+    Some(DateTime::from_parts(date, time))
 }
 
-/// The second of the day.
-#[tactic(auto, unfolding(crate::specs::Dates::is_time_text))]
-fn second_of(text: &[u8]) -> u32
-    requires { IsTrue (text_is_time text.now) }
-    ensures value { result ≡ second_of_text text.now }
-    ensures bound { result < 86_400 }
-{
-    minutes_of(text) + number_at(text, 7, 9)
-}
-
-/// The moment in UTC at a second of a day in a zone: the offset less where the zone is ahead.
-fn shifted(day: Day, second: u32, zone: &[u8]) -> Option<Moment>
-    requires day { IsDay day }
-    requires year { day.year ≤ 9999 }
-    requires second { second < 86_400 }
+/// The moment in UTC where a clock in a zone shows another: the offset less where the zone is ahead.
+fn in_utc(local: DateTime, zone: &[u8]) -> Option<DateTime>
+    requires local { IsSecond local }
     requires zone { IsTrue (text_names_minute zone.now) }
-    ensures { result ≡ moment_at (in_utc zone.now (day_number day * 86_400 + second)) }
+    ensures { option_map plain_moment result ≡ moment_at (instant_in_utc zone.now (instant (plain_moment local))) }
 {
     let offset = minutes_of(zone);
     if byte_at(zone, 0) == b'+' {
-        earlier(day, second, offset)
+        earlier(local, offset)
     } else {
-        later(day, second, offset)
+        later(local, offset)
     }
 }
 
-/// The moment in UTC that a date names.
-#[tactic(auto, unfolding(crate::specs::Dates::instant_of), using(crate::proofs::ReadDates::day_named, crate::proofs::ReadDates::year_named, crate::proofs::ReadDates::time_named, crate::proofs::ReadDates::zone_named))]
-fn moment_of(raw: &[u8]) -> Option<Moment>
-    requires { IsTrue (text_is_date raw.now) }
-    ensures { result ≡ moment_at (instant_of raw.now) }
+/// The year in four digits, and the month and the day in two.
+fn put_day(out: &mut String, date: Date) -> Result<(), OutOfMemory>
+    ensures { OnOk result (string_bytes out.new ≡ string_bytes out.old ++ decimal 4 (plain_day date).year ++ 45 ∷ decimal 2 date.month ++ 45 ∷ decimal 2 date.day) }
 {
-    let day = day_of(day_part(raw));
-    let second = second_of(time_part(raw));
-    shifted(day, second, zone_part(raw))
+    put_four(out, u32::from(date.year().unsigned_abs()))?;
+    put(out, b'-')?;
+    put_two(out, date.month() as u32)?;
+    put(out, b'-')?;
+    put_two(out, date.day() as u32)
 }
 
-fn put_day(out: &mut String, d: Day) -> Result<(), OutOfMemory>
-    ensures { OnOk result (string_bytes out.new ≡ string_bytes out.old ++ decimal 4 d.year ++ 45 ∷ decimal 2 d.month ++ 45 ∷ decimal 2 d.day) }
+fn put_time(out: &mut String, time: Time) -> Result<(), OutOfMemory>
+    ensures { OnOk result (string_bytes out.new ≡ string_bytes out.old ++ decimal 2 time.hour ++ 58 ∷ decimal 2 time.minute ++ 58 ∷ decimal 2 time.second) }
 {
-    put_four(out, d.year)?;
-    put(out, b'-')?;
-    put_two(out, d.month)?;
-    put(out, b'-')?;
-    put_two(out, d.day)
-}
-
-fn put_second(out: &mut String, second: u32) -> Result<(), OutOfMemory>
-    ensures { OnOk result (string_bytes out.new ≡ string_bytes out.old ++ decimal 2 (second / 3600) ++ 58 ∷ decimal 2 (second / 60 % 60) ++ 58 ∷ decimal 2 (second % 60)) }
-{
-    put_two(out, second / 3600)?;
+    put_two(out, time.hour() as u32)?;
     put(out, b':')?;
-    put_two(out, second / 60 % 60)?;
+    put_two(out, time.minute() as u32)?;
     put(out, b':')?;
-    put_two(out, second % 60)
+    put_two(out, time.second() as u32)
 }
 
 #[tactic(auto, unfolding(crate::specs::Dates::moment_text))]
-fn moment_text(alloc: Global, moment: Moment) -> Result<String, OutOfMemory>
-    ensures { IfOk result (λ t. string_bytes t ≡ text_of_moment moment) }
+fn moment_text(alloc: Global, moment: DateTime) -> Result<String, OutOfMemory>
+    ensures { IfOk result (λ t. string_bytes t ≡ text_of_moment (plain_moment moment)) }
 {
     let mut out = String::new(alloc);
-    put_day(&mut out, moment.day)?;
+    put_day(&mut out, moment.date())?;
     put(&mut out, b'T')?;
-    put_second(&mut out, moment.second)?;
+    put_time(&mut out, moment.time())?;
     put(&mut out, b'Z')?;
     Ok(out)
 }

@@ -1,9 +1,10 @@
 //! Decimal digits, as bytes of a text.
 
-ghost use Rattle.std.specs.Prelude.{◌≡◌, ◌+◌, ◌*◌, ◌∷◌, ◌++◌, ◌<◌, ◌≤◌, ◌^◌, [], length, string_bytes, OnOk, drop};
+ghost use Rattle.std.specs.Prelude.{◌≡◌, ◌+◌, ◌*◌, ◌∷◌, ◌++◌, ◌<◌, ◌≤◌, ◌^◌, [], length, string_bytes, IsTrue, OnOk, drop};
 ghost use Rattle.std.specs.List.{list_all, prefix_len};
-ghost use Rattle.std.specs.Char.{is_ascii_digit};
-ghost use Rattle.dw_norm.specs.Digits.{fits as fits_place, has_layout as text_has_layout, numeral as numeral_of, is_fraction as text_is_fraction, decimal};
+ghost use Rattle.std.specs.Char.{is_ascii_digit, digit_value as value_of_digit};
+ghost use Rattle.std.specs.Str.Parse.{digits_value};
+ghost use Rattle.dw_norm.specs.Digits.{fits as fits_place, has_layout as text_has_layout, is_fraction as text_is_fraction, decimal};
 
 use crate::OutOfMemory;
 
@@ -27,15 +28,22 @@ pub(crate) fn are_digits(text: &[u8]) -> bool
     text.iter().all(|byte| byte.is_ascii_digit())
 }
 
+/// What a byte counts as a digit: a letter goes on behind 9, and anything else counts 36.
+fn digit_value(byte: u8) -> u32
+    ensures value { result ≡ value_of_digit byte }
+    ensures bound { result ≤ 36 }
+{
+    char::from(byte).to_digit(36).unwrap_or(36)
+}
+
 /// The number that at most four digits spell.
-#[tactic(auto, using(crate::proofs::Runs::numeral_more))]
 pub(crate) fn numeral(digits: &[u8]) -> u32
     requires { length digits.now ≤ 4 }
-    ensures { result ≡ numeral_of digits.now }
+    ensures { result ≡ digits_value 10 digits.now }
 {
     let mut number: u32 = 0;
     for digit in digits {
-        number = 10 * number + u32::from(digit.saturating_sub(b'0'));
+        number = 10 * number + digit_value(*digit);
     }
     number
 }
@@ -83,6 +91,17 @@ pub(crate) fn put(out: &mut String, byte: u8) -> Result<(), OutOfMemory>
     ensures { OnOk result (string_bytes out.new ≡ string_bytes out.old ++ byte ∷ []) }
 {
     out.push(byte as char)
+}
+
+/// Appends digits.
+pub(crate) fn put_digits(out: &mut String, digits: &[u8]) -> Result<(), OutOfMemory>
+    requires { IsTrue (list_all is_ascii_digit digits.now) }
+    ensures { OnOk result (string_bytes out.new ≡ string_bytes out.old ++ digits.now) }
+{
+    for digit in digits {
+        put(out, *digit)?;
+    }
+    Ok(())
 }
 
 /// Appends the lowest digit of a number.

@@ -1,6 +1,6 @@
 //! What holds of all normal forms. The functions do nothing: their contracts are laws.
 
-ghost use Rattle.dw_norm.specs.Laws.{NumbersKeepOrder, InstantsKeepOrder, AddressesKeepOrder, NinesComplement, InstantsHaveMoments, NoZeroIsMade, NoZeroIsReversed, TextsAreReadWhole, DigitsSpellNumbers};
+ghost use Rattle.dw_norm.specs.Laws.{NumbersKeepOrder, InstantsKeepOrder, AddressesKeepOrder, NinesComplement, InstantsHaveMoments, NoZeroIsMade, NoZeroIsReversed, ReversalTakesBack, EndsAreFrontsReversed, TextsAreReadWhole, DigitsSpellNumbers};
 
 /// The normal forms of two numbers compare as lists of unsigned bytes as the numbers do.
 pub fn numbers_keep_order()
@@ -35,6 +35,16 @@ pub fn no_zero_is_made()
 /// A text has no byte 0 from its end back where it has none.
 pub fn no_zero_is_reversed()
     ensures { NoZeroIsReversed }
+{}
+
+/// A text reversed twice is the text.
+pub fn reversal_takes_back()
+    ensures { ReversalTakesBack }
+{}
+
+/// A text ends with another exactly where its reversal begins with the other's.
+pub fn ends_are_fronts_reversed()
+    ensures { EndsAreFrontsReversed }
 {}
 
 /// What is read of a date, a number or an address leaves no byte out.

@@ -15,6 +15,7 @@
 mod address;
 mod calendar;
 mod date;
+mod days;
 mod digits;
 mod folding;
 mod kind;
@@ -22,11 +23,12 @@ mod laws;
 mod number;
 mod reversal;
 
+pub use days::read_day;
 pub use kind::{Kind, normal};
 pub use laws::{
-    addresses_keep_order, digits_spell_numbers, instants_have_moments, instants_keep_order,
-    nines_complement, no_zero_is_made, no_zero_is_reversed, numbers_keep_order,
-    texts_are_read_whole,
+    addresses_keep_order, digits_spell_numbers, ends_are_fronts_reversed, instants_have_moments,
+    instants_keep_order, nines_complement, no_zero_is_made, no_zero_is_reversed,
+    numbers_keep_order, reversal_takes_back, texts_are_read_whole,
 };
 pub use reversal::reversed;
 pub use std::alloc::AllocError as OutOfMemory;

@@ -8,7 +8,7 @@ ghost use Rattle.dw_norm.specs.Digits.{decimal, is_fraction};
 ghost use Rattle.dw_norm.specs.Numbers.{padded as padded_digits, sign_len as sign_len_of, whole_part, fraction_part, decimals as decimals_of, is_number as text_is_number, magnitude, number_of, nines, number_text as text_of_number, norm_number};
 
 use crate::OutOfMemory;
-use crate::digits::{digits_len, is_fraction, put};
+use crate::digits::{digits_len, is_fraction, put, put_digits};
 use std::alloc::Global;
 
 /// The normal form of a number, or none where the text is no number.
@@ -102,16 +102,6 @@ fn are_zeros(digits: &[u8]) -> bool
     ensures { result ≡ list_all (λ d. d == 48) digits.now }
 {
     digits.iter().all(|digit| *digit == b'0')
-}
-
-fn put_digits(out: &mut String, digits: &[u8]) -> Result<(), OutOfMemory>
-    requires { IsTrue (list_all is_ascii_digit digits.now) }
-    ensures { OnOk result (string_bytes out.new ≡ string_bytes out.old ++ digits.now) }
-{
-    for digit in digits {
-        put(out, *digit)?;
-    }
-    Ok(())
 }
 
 /// Appends each digit taken from 9.

@@ -158,6 +158,29 @@ fn dates_are_written_in_utc(rt: HostRuntime) -> Result<(), Fail> {
 }
 
 #[test]
+fn days_are_read_in_both_forms(rt: HostRuntime) -> Result<(), Fail> {
+    let rows: Rows<'_> = &[
+        ("20240301", Some("20240301")),
+        ("2024-03-01", Some("20240301")),
+        ("00010101", Some("00010101")),
+        ("9999-12-31", Some("99991231")),
+        ("20240229", Some("20240229")),
+        ("2023-02-29", None),
+        ("0000-12-31", None),
+        ("2024-0301", None),
+        ("2024/03/01", None),
+        ("2024-03-01 ", None),
+        ("202403", None),
+        ("", None),
+    ];
+    for (raw, wanted) in rows {
+        let found = read_day(rt.alloc(), *raw)?;
+        assert!(rt; found.as_ref().map(|day| day.as_str()) == *wanted);
+    }
+    Ok(())
+}
+
+#[test]
 fn addresses_are_written_in_three_digits(rt: HostRuntime) -> Result<(), Fail> {
     let rows: Rows<'_> = &[
         ("1.2.3.4", Some("001.002.003.004")),

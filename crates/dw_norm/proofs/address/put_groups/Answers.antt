@@ -1,7 +1,8 @@
 use Rattle.std.proofs.Common.{◌∙◌, [], ◌∷◌, ◌++◌, map, ap, string_bytes}
 use Rattle.std.specs.List.{before_first, after_first, join_with_byte}
 use Rattle.std.proofs.lemmas.Result.{on_ok_weaker}
-use Rattle.dw_norm.specs.Digits.{numeral, decimal}
+use Rattle.std.specs.Str.Parse.{digits_value}
+use Rattle.dw_norm.specs.Digits.{decimal}
 use Rattle.dw_norm.specs.Addresses.{is_point, address_of}
 use Rattle.dw_norm.proofs.Addresses.{joined}
 use Rattle.dw_norm.proofs.address.put_groups.Goals as goal
@@ -18,5 +19,5 @@ returns c =
     on_ok_weaker c.put_group-4.result
     (λ h.
     joined (string_bytes c.args.out.now) _ _ _ _ _ _ _ _ _ _ _ c.in_ok-put_group.ensures c.in_ok-put.ensures c.in_ok-put_group-2.ensures c.in_ok-put-2.ensures c.in_ok-put_group-3.ensures c.in_ok-put-3.ensures h
-    ∙ (λ i. string_bytes c.args.out.now ++ join_with_byte 46 (map (decimal 3) (map numeral (first i ∷ second i ∷ third i ∷ fourth i ∷ [])))))
+    ∙ (λ i. string_bytes c.args.out.now ++ join_with_byte 46 (map (decimal 3) (map (digits_value 10) (first i ∷ second i ∷ third i ∷ fourth i ∷ [])))))
     c.put_group-4.ensures

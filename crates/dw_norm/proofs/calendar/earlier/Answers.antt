@@ -1,17 +1,18 @@
-use Rattle.std.proofs.Common.{◌+◌, ◌-◌, arith, sym, ◌∙◌}
-use Rattle.dw_norm.proofs.Days.{moment_found, none_before, first_day, stepped}
+use Rattle.std.proofs.Common.{arith, sym, pos, ◌<ℤ◌, ◌≤ℤ◌}
+use Rattle.std.proofs.lemmas.Bool.{true≢false}
+use Rattle.jiff.proofs.SpanFacts.{signed_arith}
+use Rattle.dw_norm.proofs.Civil.{fits_earlier, found_earlier, none_earlier}
 use Rattle.dw_norm.proofs.calendar.earlier.Goals as goal
 
-pub returns-then-by-second : goal.returns-then-by-second
-returns-then-by-second c = sym (moment_found (record { day = c.args.day; second = c.args.second - c.args.by }) _ (record { is_day = c.requires.day; year_to = c.requires.year; second_to = omega arith }) (omega arith))
+pub returns-in_default : goal.returns-in_default
+returns-in_default c = absurd (true≢false (sym (c.in_default.ensures.succeeds.1 (fits_earlier c.args.from c.args.by _ c.requires.from c.requires.by c.seconds.ensures))))
 
-pub returns-in_err-before : goal.returns-in_err-before
-returns-in_err-before c =
-    let first = first_day c.args.day c.in_err-before.ensures.none in
-    c.from_residual.ensures ∙ sym (none_before _ (omega arith))
+pub returns-then-year-lt1 : goal.returns-then-year-lt1
+returns-then-year-lt1 c =
+    let early : c.in-Ok.moment.date.year <ℤ pos 1 = omega (arith, signed_arith) in
+    none_earlier c.args.from c.in-Ok.moment c.args.by _ c.requires.from c.seconds.ensures early c.in-Ok.ensures.value
 
-pub returns : goal.returns
-returns c =
-    let facts = c.in_ok-before.ensures.some in
-    let step = stepped c.in_ok-before.before c.args.day facts.0 (sym facts.1) in
-    sym (moment_found (record { day = c.in_ok-before.before; second = c.args.second + 86_400 - c.args.by }) _ (record { is_day = facts.0; year_to = omega arith; second_to = omega arith }) (omega arith))
+pub returns-else-year-lt1 : goal.returns-else-year-lt1
+returns-else-year-lt1 c =
+    let late : pos 1 ≤ℤ c.in-Ok.moment.date.year = omega (arith, signed_arith) in
+    found_earlier c.args.from c.in-Ok.moment c.args.by _ c.requires.from c.seconds.ensures late c.in-Ok.ensures.value

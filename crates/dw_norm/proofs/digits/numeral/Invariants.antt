@@ -1,6 +1,6 @@
 use Rattle.std.proofs.Common.{◌≡◌, ◌+◌, ◌*◌, ◌^◌, ◌≤◌, take}
-use Rattle.dw_norm.specs.Digits.{numeral}
+use Rattle.std.specs.Str.Parse.{digits_value}
 use Rattle.dw_norm.proofs.digits.numeral.Given as goal
 
 abbrev pub invariant-loop-digit : goal.invariant-loop-digit
-invariant-loop-digit l = (l.number ≡ numeral (take l.digit-index l.digits)) × (l.number + 23 ≤ 23 * 10 ^ l.digit-index)
+invariant-loop-digit l = (l.number ≡ digits_value 10 (take l.digit-index l.digits)) × (l.number + 4 ≤ 4 * 10 ^ l.digit-index)

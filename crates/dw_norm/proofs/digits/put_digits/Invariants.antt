@@ -1,5 +1,5 @@
 use Rattle.std.proofs.Common.{◌≡◌, ◌++◌, take, string_bytes}
-use Rattle.dw_norm.proofs.number.put_digits.Given as goal
+use Rattle.dw_norm.proofs.digits.put_digits.Given as goal
 
 abbrev pub invariant-loop-digit : goal.invariant-loop-digit
 invariant-loop-digit l = string_bytes l.out ≡ string_bytes l.initial.out ++ take l.digit-index l.digits

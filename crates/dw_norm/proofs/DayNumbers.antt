@@ -1,12 +1,11 @@
 -- Days, their numbers and the moments of instants.
-use Rattle.std.proofs.Common.{◌≡◌, ℕ, zero, suc, ◌+◌, ◌-◌, ◌*◌, ◌/◌, ◌%◌, ◌<◌, ◌≤◌, true, cond, zero-add, ◌&&◌, leb, ltb, Some, None, refl, sym, ap, ◌∙◌, subst, arith, inl, inr}
+use Rattle.std.proofs.Common.{◌≡◌, ℕ, zero, suc, ◌+◌, ◌-◌, ◌*◌, ◌/◌, ◌%◌, ◌<◌, ◌≤◌, true, cond, zero-add, ◌&&◌, leb, ltb, Option, Some, None, refl, sym, ap, ◌∙◌, subst, arith, inl, inr}
 use Rattle.std.specs.Prelude.{◌↔◌}
 use Rattle.std.specs.Ordering.{nat_cmp, ordering_then}
 use Rattle.std.proofs.lemmas.Bool.{cases_lt, leb-true, le-leb, lt-leb, lt-ltb, le-ltb, and_parts}
 use Rattle.std.proofs.lemmas.Option.{cond_some}
-use Rattle.dw_norm.specs.Calendar.{month_days, IsDay, IsFirstDay, days_of_months, days_of_years, day_number, next_day, nth_day, instant, moment_at, IsMoment}
-use Rattle.dw_norm.specs.declared.calendar.Day.{Day}
-use Rattle.dw_norm.specs.declared.calendar.Moment.{Moment}
+use Rattle.dw_base.specs.Days.{month_days}
+use Rattle.dw_norm.specs.Calendar.{Day, Moment, IsDay, days_of_months, days_of_years, day_number, next_day, nth_day, instant, moment_at, IsMoment}
 use Rattle.dw_norm.proofs.Orders.{below, above, level}
 
 pub month_days-le : (y m : ℕ) → month_days y m ≤ 31
@@ -49,7 +48,7 @@ years_rise a (suc n) =
 years_le : (a b : ℕ) → a ≤ b → days_of_years a ≤ days_of_years b
 years_le a b h = let e : b - a + a ≡ b = omega arith in let same = ap days_of_years e in let rise = years_rise a (b - a) in omega arith
 
-day_number-is : (d : Day) → day_number d ≡ days_of_years (d.year - 1) + days_of_months d.year (d.month - 1) + d.day
+pub day_number-is : (d : Day) → day_number d ≡ days_of_years (d.year - 1) + days_of_months d.year (d.month - 1) + d.day
 unfolding day_number
 day_number-is d = refl
 
@@ -57,7 +56,7 @@ no_months : (y : ℕ) → days_of_months y 0 ≡ 0
 unfolding days_of_months
 no_months y = refl
 
-no_years : days_of_years 0 ≡ 0
+pub no_years : days_of_years 0 ≡ 0
 unfolding days_of_years
 no_years = refl
 
@@ -214,23 +213,16 @@ next_day-is d h =
           )
         ]
 
-pub first_day : (d : Day) → IsFirstDay d → day_number d ≡ 1
-first_day d h =
-    let e = day_number-is d in
-    let m : d.month - 1 ≡ 0 = omega (arith, h.month) in
-    let months = ap (days_of_months d.year) m in
-    let y : d.year - 1 ≡ 0 = omega (arith, h.year) in
-    let years = ap days_of_years y in
-    let none = no_months d.year in
-    let zero_years = no_years in
-    omega (arith, h.day)
+first_day : day_number (record { year = 1; month = 1; day = 1 }) ≡ 1
+unfolding day_number days_of_years days_of_months
+first_day = refl
 
 -- the nth day is a day, and its number is n + 1
 pub nth_day-is : (n : ℕ) → IsDay (nth_day n) × (day_number (nth_day n) ≡ n + 1)
 unfolding nth_day
 nth_day-is zero = (
   record { year_from = omega arith; month_from = omega arith; month_to = omega arith; day_from = omega arith; day_to = month_has_days 1 1 },
-  first_day (record { year = 1; month = 1; day = 1 }) (record { year = refl; month = refl; day = refl }),
+  first_day,
 )
 nth_day-is (suc n) =
     let rest = nth_day-is n in
@@ -268,9 +260,6 @@ pub none_before : (t : ℕ) → t < 86_400 → moment_at t ≡ None
 unfolding moment_at
 none_before t h = rw (lt-leb 86_400 t h) refl
 
-pub none_behind : (d : Day) (s t : ℕ) → IsDay d → s < 86_400 → t ≡ day_number d * 86_400 + s → 9999 < d.year → moment_at t ≡ None
-none_behind d s t h fits e late = moment_at-day d s t h fits e ∙ ap (λ b. cond b (Some (record { day = d; second = s })) None) (lt-leb d.year 9999 late)
-
 moment_is : (t : ℕ) (m : Moment) → moment_at t ≡ Some m → IsMoment m × (instant m ≡ t)
 unfolding moment_at
 moment_is t m e =
@@ -286,8 +275,14 @@ moment_is t m e =
 pub moments_told : (t : ℕ) (m : Moment) → (moment_at t ≡ Some m) ↔ (IsMoment m × (instant m ≡ t))
 moments_told t m = (moment_is t m, λ h. moment_found m t h.0 h.1)
 
--- the day after a day, under another name
-pub stepped : (d e : Day) → IsDay d → e ≡ next_day d → IsDay e × (day_number e ≡ day_number d + 1) × (d.year ≤ e.year)
-stepped d e h same =
-    let P : Day → Type 0 = λ n. IsDay n × (day_number n ≡ day_number d + 1) × (d.year ≤ n.year) in
-    subst P (sym same) (next_day-is d h)
+-- none behind the last day of the year 9999
+pub none_late : (t : ℕ) → (days_of_years 9999 + 1) * 86_400 ≤ t → moment_at t ≡ None
+none_late t h = by (moment_at t) refl
+  where
+    by : (o : Option Moment) → moment_at t ≡ o → o ≡ None
+    by None e = refl
+    by (Some m) e =
+        let told = moment_is t m e in
+        let last = year_end m.day told.0.is_day in
+        let years = years_le m.day.year 9999 told.0.year_to in
+        absurd (omega (arith, told.0.second_to, told.1))
