@@ -6,7 +6,7 @@ use Rattle.std.proofs.lemmas.List.{map-append}
 use Rattle.std.specs.Io.KnownBytes.{append_known, prepend_known}
 use Rattle.dw_wire.specs.ReadLine.{read_line}
 use Rattle.dw_desk.specs.World.{World}
-use Rattle.dw_desk.specs.Session.{Digest, Asked, Answers, Session}
+use Rattle.dw_desk.specs.Session.{Digest, Asked, Session}
 use Rattle.datawave.specs.Session.{requests, AllAnswered, LastLacks, FrontAnswered, SomeAnswered}
 use Rattle.datawave.specs.Exchange.{AnswersLine, LinePut, LineLacks, LinesPut, LinesLack, PartPut}
 

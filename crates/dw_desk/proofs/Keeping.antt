@@ -1,12 +1,12 @@
 -- On what each step keeps: the order of the events, their batches, and the numbers of queries.
-use Rattle.std.proofs.Common.{◌≡◌, ◌≢◌, ◌≤◌, ◌<◌, ◌+◌, ◌==◌, ◌&&◌, ◌||◌, ◌∷◌, [], ℕ, Bool, true, false, cond, nat_lt, nat_le, List, filter, map, Option, Some, None, IfSome, Result, Ok, Err, All, refl, sym, ap, ◌∙◌, subst, inl, inr, arith, le_trans, le_refl}
+use Rattle.std.proofs.Common.{◌≡◌, ◌≤◌, ◌<◌, ◌+◌, ◌==◌, ◌&&◌, ◌||◌, ◌∷◌, [], ℕ, Bool, true, false, cond, nat_lt, nat_le, List, filter, Option, Some, None, IfSome, Result, Ok, Err, refl, sym, ap, ◌∙◌, subst, inl, inr, arith, le_trans, le_refl}
 use Rattle.std.specs.List.{AllByRecursion}
 use Rattle.std.specs.List.Sorted.{IsStrictlySortedBy}
 use Rattle.std.specs.declared.cmp.Ordering.{Ordering}
 use Rattle.std.specs.declared.cmp.Ordering.TheVariants.{Less, Equal, Greater}
 use Rattle.std.specs.Ordering.{nat_cmp, match_ordering}
 use Rattle.std.specs.BTreeMap.{is_at, insert_entry}
-use Rattle.std.proofs.lemmas.Bool.{lt-ltb, ltb-false}
+use Rattle.std.proofs.lemmas.Bool.{ltb-false}
 use Rattle.std.proofs.lemmas.Grind.{common_steps}
 use Rattle.std.proofs.lemmas.List.Elements.{All-from_recursion, recursion_from_All}
 use Rattle.dw_event.specs.Places.{place_cmp, place_of}
@@ -28,9 +28,9 @@ use Rattle.dw_desk.specs.Numbers.{last_number}
 use Rattle.dw_desk.specs.World.{Event, Account, World, nothing, at_caller}
 use Rattle.dw_desk.specs.Accounts.{granted, opened, closed}
 use Rattle.dw_desk.specs.Take.{Taken, none_taken, with_held, with_record, with_records, held_at}
-use Rattle.dw_desk.specs.Step.{Outcome, step, asked_for, defined, ingested, created, paged, dropped, last_after, query_of}
+use Rattle.dw_desk.specs.Step.{Outcome, step, asked_for, defined, ingested, created, paged, dropped, query_of}
 use Rattle.dw_desk.specs.Session.{Digest, Asked, Answers, Session}
-use Rattle.dw_desk.specs.Laws.{Ascends, IsCurrent, IsKept, StepsKeep, SessionsKeep}
+use Rattle.dw_desk.specs.Laws.{IsCurrent, IsKept, StepsKeep, SessionsKeep}
 use Rattle.dw_desk.proofs.Entries.{same_number}
 use Rattle.dw_desk.proofs.Taking.{filter_insert}
 use Rattle.dw_desk.proofs.LawLemmas.{steps_ascend}

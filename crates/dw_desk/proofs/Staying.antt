@@ -1,5 +1,5 @@
 -- On what becomes of an open query.
-use Rattle.std.proofs.Common.{◌≡◌, ◌≢◌, ◌≤◌, ◌<◌, ◌+◌, ◌==◌, ◌&&◌, ◌||◌, ◌∷◌, [], ℕ, Bool, true, false, cond, nat_lt, List, filter, map, Option, Some, None, IfSome, Ok, Err, All, refl, sym, ap, ◌∙◌, subst, inl, inr, arith, le_refl}
+use Rattle.std.proofs.Common.{◌≡◌, ◌≢◌, ◌≤◌, ◌+◌, ◌==◌, ◌&&◌, ◌||◌, ◌∷◌, [], ℕ, Bool, true, false, cond, nat_lt, List, filter, map, Option, Some, None, IfSome, Ok, Err, All, refl, sym, ap, ◌∙◌, subst, inl, inr, arith}
 use Rattle.std.specs.Ordering.{nat_cmp}
 use Rattle.std.specs.BTreeMap.{is_at}
 use Rattle.std.proofs.lemmas.List.Elements.{All-head, All-tail}
@@ -9,7 +9,6 @@ use Rattle.dw_event.specs.declared.reports.Shown.{Shown}
 use Rattle.dw_dict.specs.Rules.{widens}
 use Rattle.dw_dict.specs.Dictionary.{rule_of}
 use Rattle.dw_dict.specs.declared.rule.FieldRule.{FieldRule}
-use Rattle.dw_wire.specs.declared.reply.Reply.{Reply}
 use Rattle.dw_wire.specs.declared.reply.Reply.TheVariants.{Paged}
 use Rattle.dw_wire.specs.declared.request.Request.TheVariants.{Define, Grant, Ingest, Create, Page, Close}
 use Rattle.dw_desk.specs.declared.open_query.BoundQuery.{BoundQuery}

@@ -1,5 +1,5 @@
 -- On what the text of an answer tells.
-use Rattle.std.proofs.Common.{◌≡◌, ◌≢◌, ◌+◌, ◌==◌, ◌&&◌, ◌||◌, ◌∷◌, [], ℕ, Bool, true, false, cond, nat_lt, List, get_or, Option, Some, None, Ok, Err, refl, sym, ap, ◌∙◌, subst, inl, inr, arith}
+use Rattle.std.proofs.Common.{◌≡◌, ◌≢◌, ◌+◌, ◌==◌, ◌&&◌, ◌||◌, ◌∷◌, [], ℕ, Bool, true, false, cond, nat_lt, List, get_or, Option, Some, None, Ok, Err, refl, sym, ap, ◌∙◌, subst, inl, inr}
 use Rattle.std.proofs.lemmas.Bool.{eqb-false}
 use Rattle.serde_json.proofs.OnLiterals.{serde_json_on_literals}
 use Rattle.dw_event.specs.declared.days.Days.{Days}
@@ -19,7 +19,7 @@ use Rattle.dw_desk.specs.World.{World}
 use Rattle.dw_desk.specs.Take.{Taken, none_taken, with_records}
 use Rattle.dw_desk.specs.Step.{Outcome, step, asked_for, defined, ingested, created, paged, dropped, query_of}
 use Rattle.dw_desk.specs.Session.{Digest, Asked, Answers, Session}
-use Rattle.dw_desk.specs.Laws.{TextsTell, StepsTell, SessionsTell}
+use Rattle.dw_desk.specs.Laws.{StepsTell, SessionsTell}
 
 -- a reply other than the two that say that nothing was done
 abbrev IsDone : Reply → Type 0

@@ -1,6 +1,6 @@
 -- Laws over the definitions: what holds of every world that requests leave, what becomes of an open query, the pages of
 -- a query together, and what the text of an answer says.
-use Rattle.std.specs.Prelude.{◌≡◌, ◌≢◌, ◌≤◌, ℕ, zero, suc, false, List, [], ◌++◌, Option, Some, Ok, IfSome, All}
+use Rattle.std.specs.Prelude.{◌≡◌, ◌≢◌, ◌≤◌, ℕ, zero, suc, false, List, [], ◌++◌, Some, Ok, IfSome, All}
 use Rattle.std.specs.List.Sorted.{IsStrictlySortedBy}
 use Rattle.std.specs.Map.{keys_of}
 use Rattle.dw_event.specs.Places.{place_cmp}
