@@ -6,3 +6,4 @@ pub mod ReadingNames
 pub mod ReadingNumbers
 pub mod ReadingQueries
 pub mod ReadingRecords
+pub mod Rules
