@@ -5,7 +5,6 @@ ghost use Rattle.datawave.specs.Lines.{kept, whole_lines_after, rest_after};
 ghost use Rattle.dw_wire.specs.ReadLine.{read_line as request_on};
 ghost use Rattle.dw_wire.specs.ReplyText.{reply_text};
 ghost use Rattle.dw_desk.specs.Desk.{world_of};
-ghost use Rattle.dw_wire.specs.Requests.{IsCounted, IsRuled};
 ghost use Rattle.datawave.specs.Exchange.{AnswersLine, LinePut, LineLacks, LinesPut, LinesLack, PartPut};
 ghost use Rattle.datawave.specs.Texts.{text_of};
 
@@ -55,9 +54,7 @@ impl Text {
 
 /// The request that a line is. A line that is too long is none.
 fn request_of(alloc: Global, line: &Line) -> Result<Result<Request, Why>, OutOfMemory>
-    ensures request { IfOk result (λ r. (bytes : List ℕ) → line.now ≡ kept bytes → r ≡ request_on bytes) }
-    ensures counted { IfOk result (λ r. IsCounted r) }
-    ensures ruled { IfOk result (λ r. IsRuled r) }
+    ensures { IfOk result (λ r. (bytes : List ℕ) → line.now ≡ kept bytes → r ≡ request_on bytes) }
 {
     match line.bytes() {
         Some(bytes) => read_line(alloc, bytes),

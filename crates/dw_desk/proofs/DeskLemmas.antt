@@ -16,16 +16,18 @@ use Rattle.dw_event.specs.declared.records.Place.{Place}
 use Rattle.dw_wire.specs.declared.reply.Reply.{Reply}
 use Rattle.dw_wire.specs.declared.reply.Reply.TheVariants.{Defined, Ingested, Created, Closed, Malformed, NotOwned, NotEmpty, Unanchored, Spent}
 use Rattle.dw_wire.specs.declared.request.Why.TheVariants.{Literal}
-use Rattle.dw_desk.specs.declared.desk.Held.{Held}
+use Rattle.dw_event.specs.declared.records.Held.{Held}
 use Rattle.dw_desk.specs.declared.open_query.BoundQuery.{BoundQuery}
 use Rattle.dw_desk.specs.declared.open_query.OpenQuery.{OpenQuery}
 use Rattle.dw_desk.specs.declared.caller.Caller.{Caller}
 use Rattle.dw_desk.specs.declared.take.Tally.{Tally}
 use Rattle.dw_desk.specs.Numbers.{last_number}
-use Rattle.dw_desk.specs.World.{Event, Account, World, nobody, nothing, at_caller}
+use Rattle.dw_event.specs.Take.{Event}
+use Rattle.dw_desk.specs.World.{Account, World, nobody, nothing, at_caller}
 use Rattle.dw_desk.specs.Accounts.{account, opened, closed}
-use Rattle.dw_desk.specs.Take.{Taken}
-use Rattle.dw_desk.specs.Step.{Outcome, asked_for, created, defined, ingested, dropped, last_after, query_of, refused, with_caller}
+use Rattle.dw_event.specs.Take.{Taken}
+use Rattle.dw_event.specs.Take.{last_after}
+use Rattle.dw_desk.specs.Step.{Outcome, asked_for, created, defined, ingested, dropped, query_of, refused, with_caller}
 use Rattle.dw_desk.specs.Desk.{account_of, SameAccounts, Changes, Gives, IsOutcome, Meets, taken_of}
 use Rattle.dw_desk.proofs.Entries.{none_dropped}
 use Rattle.dw_desk.proofs.CallerLemmas.{unchanged}
@@ -78,7 +80,7 @@ created_none events last dict old new name query h =
 
 anchored_if : (b : Bool) (w : World) (name : List ℕ) (days : Days) (size : ℕ) (asked : Option (List (List ℕ))) (query : BoundQuery) → query.rule.indexed ≡ b
     → asked_for w name days size asked (Some query) ≡ cond b (created w name (query_of w name query days size asked)) (refused w Unanchored)
-anchored_if b w name days size asked query e = rw e refl
+anchored_if b w name days size asked query e = ap (λ x. cond x (created w name (query_of w name query days size asked)) (refused w Unanchored)) e
 
 pub asked_anchored : (w next : World) (name : List ℕ) (days : Days) (size : ℕ) (asked : Option (List (List ℕ))) (query : BoundQuery) (o : Option BoundQuery) (reply : Reply)
     → Some query ≡ o → query.rule.indexed ≡ true → Meets true (created w name (query_of w name query days size asked)) w reply next
@@ -153,8 +155,8 @@ not_spent n last false e h = and_false (nat_lt 0 n)
 
 abbrev ingested_ok : World → Taken → Outcome
 ingested_ok w t = record {
-  reply = Ingested (record { new = t.new; repeat = t.repeat; bad = t.bad; last = last_after w t });
-  world = record { events = t.events; last = last_after w t; dict = w.dict; callers = w.callers };
+  reply = Ingested (record { new = t.new; repeat = t.repeat; bad = t.bad; last = last_after w.last t });
+  world = record { events = t.events; last = last_after w.last t; dict = w.dict; callers = w.callers };
 }
 
 ingested_if : (b : Bool) (w : World) (t : Taken) → (nat_lt 0 t.new && (w.last == last_number)) ≡ b
@@ -168,7 +170,7 @@ ingested_from w t h =
 
 -- the batch was taken
 pub ingested_taken : (w : World) (t : Taken) (events : BTreeMap Place Held) (tally : Tally) (last : ℕ) → taken_of events tally ≡ t → (w.last ≡ last_number → t.new ≡ 0)
-    → last ≡ last_after w (taken_of events tally)
+    → last ≡ last_after w.last (taken_of events tally)
     → IsOutcome (ingested w t) (Ingested (record { new = tally.added; repeat = tally.repeat; bad = tally.bad; last = last }))
     (record { events = events.entries; last = last; dict = w.dict; callers = w.callers })
 ingested_taken w t events tally last is h at =
@@ -187,8 +189,8 @@ ingested_spent w t some at =
     and_true : (x y : Bool) → x ≡ true → y ≡ true → (x && y) ≡ true
     and_true x y e f = rw (e, f) refl
 
-pub added_some : (w : World) (t : Taken) → 0 < t.new → last_after w t ≡ w.last + 1
+pub added_some : (w : World) (t : Taken) → 0 < t.new → last_after w.last t ≡ w.last + 1
 added_some w t h = rw (lt-ltb 0 t.new h) refl
 
-pub added_none : (w : World) (t : Taken) → t.new ≤ 0 → last_after w t ≡ w.last
+pub added_none : (w : World) (t : Taken) → t.new ≤ 0 → last_after w.last t ≡ w.last
 added_none w t h = rw (le-ltb 0 t.new h) refl

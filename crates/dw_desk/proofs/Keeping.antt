@@ -20,14 +20,15 @@ use Rattle.dw_dict.specs.Rules.{widens}
 use Rattle.dw_dict.specs.Dictionary.{rule_of}
 use Rattle.dw_dict.specs.declared.rule.FieldRule.{FieldRule}
 use Rattle.dw_wire.specs.declared.request.Request.TheVariants.{Define, Grant, Ingest, Create, Page, Close}
-use Rattle.dw_desk.specs.declared.desk.Held.{Held}
+use Rattle.dw_event.specs.declared.records.Held.{Held}
 use Rattle.dw_desk.specs.declared.open_query.BoundQuery.{BoundQuery}
 use Rattle.dw_desk.specs.declared.open_query.OpenQuery.{OpenQuery}
 use Rattle.dw_desk.specs.Bound.{bound}
 use Rattle.dw_desk.specs.Numbers.{last_number}
-use Rattle.dw_desk.specs.World.{Event, Account, World, nothing, at_caller}
+use Rattle.dw_event.specs.Take.{Event}
+use Rattle.dw_desk.specs.World.{Account, World, nothing, at_caller}
 use Rattle.dw_desk.specs.Accounts.{granted, opened, closed}
-use Rattle.dw_desk.specs.Take.{Taken, none_taken, with_held, with_record, with_records, held_at}
+use Rattle.dw_event.specs.Take.{Taken, none_taken, with_held, with_record, with_records, held_at}
 use Rattle.dw_desk.specs.Step.{Outcome, step, asked_for, defined, ingested, created, paged, dropped, query_of}
 use Rattle.dw_desk.specs.Session.{Digest, Asked, Answers, Session}
 use Rattle.dw_desk.specs.Laws.{IsCurrent, IsKept, StepsKeep, SessionsKeep}

@@ -1,4 +1,4 @@
--- On the laws of steps and pages.
+-- On the law that steps keep events in order.
 use Rattle.std.proofs.Common.{◌≡◌, ◌≤◌, ◌+◌, ◌-◌, ◌*◌, ◌++◌, ◌∷◌, [], ℕ, zero, suc, Bool, true, false, cond, nat_lt, ◌&&◌, ◌||◌, ◌==◌, List, Option, Some, None, Result, Ok, Err, length, take, drop, refl, sym, ap, ◌∙◌, subst, arith, rules}
 use native.Mathlib.Nat.{suc-mul}
 use Rattle.std.specs.List.{AllByRecursion}
@@ -22,19 +22,19 @@ use Rattle.dw_event.specs.declared.days.Days.{Days}
 use Rattle.dw_event.specs.declared.records.Place.{Place}
 use Rattle.dw_event.specs.declared.records.Record.{Record}
 use Rattle.dw_event.specs.declared.reports.BadRecord.{BadRecord}
-use Rattle.dw_desk.specs.declared.desk.Held.{Held}
+use Rattle.dw_event.specs.declared.records.Held.{Held}
 use Rattle.dw_desk.specs.declared.open_query.BoundQuery.{BoundQuery}
 use Rattle.dw_desk.specs.declared.open_query.OpenQuery.{OpenQuery}
 use Rattle.dw_desk.specs.Bound.{bound}
 use Rattle.dw_event.specs.declared.reports.Shown.{Shown}
 use Rattle.dw_wire.specs.declared.request.Request.TheVariants.{Define, Grant, Ingest, Create, Page, Close}
 use Rattle.dw_desk.specs.Numbers.{last_number}
-use Rattle.dw_desk.specs.World.{Event, World}
-use Rattle.dw_desk.specs.Take.{Taken, none_taken, with_held, with_record, with_records, held_at}
-use Rattle.dw_desk.specs.Answer.{page_items, page_start}
+use Rattle.dw_event.specs.Take.{Event}
+use Rattle.dw_desk.specs.World.{World}
+use Rattle.dw_event.specs.Take.{Taken, none_taken, with_held, with_record, with_records, held_at}
 use Rattle.dw_desk.specs.Step.{Outcome, step, asked_for, defined, ingested, created, paged, dropped, query_of}
 use Rattle.dw_desk.specs.Session.{Digest, Asked}
-use Rattle.dw_desk.specs.Laws.{Ascends, pages, PagesAreTheAnswer}
+use Rattle.dw_desk.specs.Laws.{Ascends}
 
 places_total : IsTotalOrder place_cmp
 places_total = search (comparing, rules)
@@ -123,25 +123,3 @@ steps_ascend digest w (Ok (Ingest records)) s = ingested_ascends w (with_records
 steps_ascend digest w (Ok (Create caller query days size asked)) s = asked_ascends w caller days size asked (bound w.dict query) s
 steps_ascend digest w (Ok (Page caller number page)) s = page_ascends w page ((w.callers caller).queries number) s
 steps_ascend digest w (Ok (Close caller number)) s = drop_ascends w caller number ((w.callers caller).queries number) s
-
--- ---- pages
-
-starts_at : (size k : ℕ) → page_start size (suc k) ≡ k * size
-starts_at size k = let before : suc k - 1 ≡ k = omega arith in ap (λ n. n * size) before
-
-no_pages : (size : ℕ) → 0 * size ≡ 0
-no_pages size = omega arith
-
-pages_front : (all : List Shown) (size k : ℕ) → pages all size k ≡ take (k * size) all
-pages_front all size zero = sym (ap (λ n. take n all) (no_pages size))
-pages_front all size (suc k) =
-    ap (λ xs. xs ++ page_items all size (suc k)) (pages_front all size k)
-    ∙ ap (λ s. take (k * size) all ++ take size (drop s all)) (starts_at size k)
-    ∙ sym (take-add (k * size) size all)
-    ∙ sym (ap (λ n. take n all) (suc-mul k size))
-
-pub pages_are_the_answer : PagesAreTheAnswer
-pages_are_the_answer all size k e =
-    let whole : page_start size (suc k) + size ≡ suc k * size = ap (λ s. s + size) (starts_at size k) ∙ sym (suc-mul k size) in
-    let few : length all ≤ suc k * size = subst (λ (n : ℕ). length all ≤ n) whole (ltb-false (page_start size (suc k) + size) (length all) e) in
-    pages_front all size (suc k) ∙ take_all (suc k * size) all few

@@ -6,8 +6,10 @@ use Rattle.std.proofs.lemmas.Bool.{lt-ltb, le-ltb}
 use Rattle.std.proofs.lemmas.Grind.{common_steps}
 use Rattle.dw_desk.specs.declared.open_query.OpenQuery.{OpenQuery}
 use Rattle.dw_event.specs.declared.reports.Shown.{Shown}
-use Rattle.dw_desk.specs.World.{Event}
-use Rattle.dw_desk.specs.Answer.{answer_of, is_answer, is_seen, shown_of, page_start, page_items, has_more}
+use Rattle.dw_event.specs.Take.{Event}
+use Rattle.dw_desk.specs.Answer.{answer_of, is_answer}
+use Rattle.dw_event.specs.Seen.{is_seen, shown_of}
+use Rattle.dw_event.specs.Pages.{page_start, page_items, has_more}
 
 chosen : (b c a : Bool) (s : Shown) (all : List Shown) (q : OpenQuery) → is_seen s.view ≡ c → is_answer q s ≡ a
     → filter (is_answer q) (filter (λ x. is_seen x.view) (cond b (s ∷ all) all))

@@ -15,10 +15,13 @@ use Rattle.dw_desk.specs.declared.open_query.BoundQuery.{BoundQuery}
 use Rattle.dw_desk.specs.declared.open_query.OpenQuery.{OpenQuery}
 use Rattle.dw_desk.specs.Bound.{bound}
 use Rattle.dw_desk.specs.Numbers.{last_number}
-use Rattle.dw_desk.specs.World.{Event, Account, World, at_caller}
+use Rattle.dw_event.specs.Take.{Event}
+use Rattle.dw_desk.specs.World.{Account, World, at_caller}
 use Rattle.dw_desk.specs.Accounts.{granted, opened, closed}
-use Rattle.dw_desk.specs.Take.{Taken, none_taken, with_records}
-use Rattle.dw_desk.specs.Answer.{answer, answer_of, is_seen, page_items, has_more, shown_of}
+use Rattle.dw_event.specs.Take.{Taken, none_taken, with_records}
+use Rattle.dw_desk.specs.Answer.{answer, answer_of}
+use Rattle.dw_event.specs.Seen.{is_seen, shown_of}
+use Rattle.dw_event.specs.Pages.{page_items, has_more}
 use Rattle.dw_desk.specs.Step.{Outcome, step, asked_for, defined, ingested, created, paged, dropped, query_of}
 use Rattle.dw_desk.specs.Session.{Digest, Asked, Answers, Session}
 use Rattle.dw_desk.specs.Laws.{IsKept, IsOpen, KeepsQuery, StepsKeepQueries, SessionsKeepQueries}

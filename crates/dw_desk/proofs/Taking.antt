@@ -12,11 +12,11 @@ use Rattle.dw_event.specs.Cells.{cells_eq}
 use Rattle.dw_event.specs.declared.cells.EventCell.{EventCell}
 use Rattle.dw_event.specs.declared.records.Record.{Record}
 use Rattle.dw_event.specs.declared.records.Place.{Place}
-use Rattle.dw_desk.specs.declared.desk.Held.{Held}
+use Rattle.dw_event.specs.declared.records.Held.{Held}
 use Rattle.dw_desk.specs.declared.take.Standing.TheVariants.{Free, Same, Other}
 use Rattle.dw_event.specs.declared.reports.BadReason.TheVariants.{Clash}
-use Rattle.dw_desk.specs.World.{Event}
-use Rattle.dw_desk.specs.Take.{Taken, held_at, with_held, with_record}
+use Rattle.dw_event.specs.Take.{Event}
+use Rattle.dw_event.specs.Take.{Taken, held_at, with_held, with_record}
 use Rattle.dw_desk.specs.Standing.{standing_of}
 use Rattle.dw_desk.specs.Batches.{events_before, are_before}
 

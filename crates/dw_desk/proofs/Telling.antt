@@ -16,7 +16,7 @@ use Rattle.dw_desk.specs.declared.open_query.OpenQuery.{OpenQuery}
 use Rattle.dw_desk.specs.Bound.{bound}
 use Rattle.dw_desk.specs.Numbers.{last_number}
 use Rattle.dw_desk.specs.World.{World}
-use Rattle.dw_desk.specs.Take.{Taken, none_taken, with_records}
+use Rattle.dw_event.specs.Take.{Taken, none_taken, with_records}
 use Rattle.dw_desk.specs.Step.{Outcome, step, asked_for, defined, ingested, created, paged, dropped, query_of}
 use Rattle.dw_desk.specs.Session.{Digest, Asked, Answers, Session}
 use Rattle.dw_desk.specs.Laws.{StepsTell, SessionsTell}

@@ -1,7 +1,7 @@
 -- The batches that brought events.
 use Rattle.std.specs.Prelude.{ℕ, Bool, nat_lt, List, filter}
 use Rattle.std.specs.List.{list_all}
-use Rattle.dw_desk.specs.World.{Event}
+use Rattle.dw_event.specs.Take.{Event}
 
 -- the events of earlier batches
 abbrev pub events_before : ℕ → List Event → List Event

@@ -10,14 +10,14 @@ use Rattle.dw_wire.specs.declared.request.Why.{Why}
 use Rattle.dw_wire.specs.declared.reply.Reply.{Reply}
 use Rattle.dw_wire.specs.declared.reply.Reply.TheVariants.{Defined, Granted, Ingested, Created, Paged, Closed, Malformed, NotOwned, NotEmpty, Unanchored, Spent, StoreFault, OutOfMemory}
 use Rattle.dw_wire.specs.declared.request.Request.TheVariants.{Define, Grant, Ingest, Create, Page, Close}
-use Rattle.dw_desk.specs.declared.desk.Held.{Held}
+use Rattle.dw_event.specs.declared.records.Held.{Held}
 use Rattle.dw_desk.specs.declared.desk.Desk.{Desk}
 use Rattle.dw_desk.specs.declared.open_query.OpenQuery.{OpenQuery}
 use Rattle.dw_desk.specs.declared.take.Tally.{Tally}
 use Rattle.dw_desk.specs.World.{Account, World, nobody, at_caller}
 use Rattle.dw_desk.specs.declared.caller.Caller.{Caller}
 use Rattle.dw_desk.specs.Accounts.{account, opened}
-use Rattle.dw_desk.specs.Take.{Taken}
+use Rattle.dw_event.specs.Take.{Taken}
 use Rattle.dw_desk.specs.Numbers.{last_number}
 use Rattle.dw_desk.specs.Step.{Outcome, step}
 

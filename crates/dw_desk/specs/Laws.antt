@@ -10,7 +10,8 @@ use Rattle.dw_wire.specs.declared.reply.Reply.TheVariants.{StoreFault, OutOfMemo
 use Rattle.dw_wire.specs.ReplyText.{reply_text}
 use Rattle.dw_desk.specs.declared.open_query.OpenQuery.{OpenQuery}
 use Rattle.dw_desk.specs.World.{Account, World, nothing}
-use Rattle.dw_desk.specs.Answer.{answer_of, page_items, has_more}
+use Rattle.dw_desk.specs.Answer.{answer_of}
+use Rattle.dw_event.specs.Pages.{page_items, has_more}
 use Rattle.dw_desk.specs.Step.{step}
 use Rattle.dw_desk.specs.Session.{Digest, Asked, Session}
 
@@ -60,17 +61,6 @@ StepsKeepQueries = (digest : Digest) (w : World) (request : Asked) (caller : Lis
 abbrev pub SessionsKeepQueries : Type 0
 SessionsKeepQueries = (digest : Digest) (w : World) (rs : List Asked) (texts : List (List ℕ)) (last : World) (faults : ℕ) (caller : List ℕ) (number : ℕ) (q : OpenQuery) →
     IsKept w → IsOpen w caller number q → Session digest w rs texts last faults → All (λ r. r ≢ Ok (Close caller number)) rs → KeepsQuery digest w last caller number q
-
--- ---- pages
-
--- the first k pages of an answer, one after another
-abbrev pub pages : List Shown → ℕ → ℕ → List Shown
-pages all size zero = []
-pages all size (suc k) = pages all size k ++ page_items all size (suc k)
-
--- the pages up to one behind which no event stands are together the answer
-abbrev pub PagesAreTheAnswer : Type 0
-PagesAreTheAnswer = (all : List Shown) (size k : ℕ) → has_more all size (suc k) ≡ false → pages all size (suc k) ≡ all
 
 -- ---- texts
 

@@ -2,7 +2,6 @@ pub mod Numbers
 pub mod World
 pub mod Accounts
 pub mod Bound
-pub mod Take
 pub mod Answer
 pub mod Step
 pub mod Batches

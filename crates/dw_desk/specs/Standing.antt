@@ -1,7 +1,7 @@
 -- How a record stands to what is held at its place.
 use Rattle.std.specs.Prelude.{List, Option, Some, None, if◌then◌else◌}
 use Rattle.dw_event.specs.declared.cells.EventCell.{EventCell}
-use Rattle.dw_desk.specs.declared.desk.Held.{Held}
+use Rattle.dw_event.specs.declared.records.Held.{Held}
 use Rattle.dw_desk.specs.declared.take.Standing.{Standing}
 use Rattle.dw_desk.specs.declared.take.Standing.TheVariants.{Free, Same, Other}
 use Rattle.dw_event.specs.Cells.{cells_eq}

@@ -18,8 +18,9 @@ use Rattle.dw_desk.specs.Bound.{bound, is_anchored}
 use Rattle.dw_desk.specs.Numbers.{last_number}
 use Rattle.dw_desk.specs.World.{Account, World, at_caller}
 use Rattle.dw_desk.specs.Accounts.{granted, opened, closed}
-use Rattle.dw_desk.specs.Take.{Taken, none_taken, with_records}
-use Rattle.dw_desk.specs.Answer.{answer_of, page_items, has_more}
+use Rattle.dw_event.specs.Take.{Taken, taken, last_after, report_of}
+use Rattle.dw_desk.specs.Answer.{answer_of}
+use Rattle.dw_event.specs.Pages.{page_items, has_more}
 
 -- an answer, and the world after it
 pub record Outcome : Type 0 where
@@ -41,18 +42,14 @@ defined w field rule =
     then record { reply = Defined; world = record { events = w.events; last = w.last; dict = map.insert w.dict field rule; callers = w.callers } }
     else refused w NotEmpty
 
--- the number of the last batch, which counts one more where a record was new
-abbrev pub last_after : World → Taken → ℕ
-last_after w t = if nat_lt 0 t.new then w.last + 1 else w.last
-
 -- the records were taken, unless one is new and no batch number is left
 abbrev pub ingested : World → Taken → Outcome
 ingested w t =
     if nat_lt 0 t.new && (w.last == last_number)
     then refused w Spent
     else record {
-      reply = Ingested (record { new = t.new; repeat = t.repeat; bad = t.bad; last = last_after w t });
-      world = record { events = t.events; last = last_after w t; dict = w.dict; callers = w.callers };
+      reply = Ingested (report_of w.last t);
+      world = record { events = t.events; last = last_after w.last t; dict = w.dict; callers = w.callers };
     }
 
 -- the names that a query is for: those granted, or those of them that are asked for
@@ -95,7 +92,7 @@ unfoldable pub step : (List ℕ → List ℕ) → World → Result Request Why �
 step digest w (Err why) = refused w (Malformed why)
 step digest w (Ok (Define field rule)) = defined w field rule
 step digest w (Ok (Grant caller names)) = record { reply = Granted; world = with_caller w caller (granted names) }
-step digest w (Ok (Ingest records)) = ingested w (with_records digest (w.last + 1) (none_taken w.events) records)
+step digest w (Ok (Ingest records)) = ingested w (taken digest w.events w.last records)
 step digest w (Ok (Create caller query days size asked)) = asked_for w caller days size asked (bound w.dict query)
 step digest w (Ok (Page caller number page)) = paged w page ((w.callers caller).queries number)
 step digest w (Ok (Close caller number)) = dropped w caller number ((w.callers caller).queries number)

@@ -5,13 +5,8 @@ use Rattle.std.specs.BTreeMap.{is_at}
 use Rattle.std.specs.FinMap as map
 use Rattle.dw_dict.specs.Dictionary.{Dictionary}
 use Rattle.dw_event.specs.Texts.{is_same}
-use Rattle.dw_event.specs.declared.records.Place.{Place}
-use Rattle.dw_desk.specs.declared.desk.Held.{Held}
+use Rattle.dw_event.specs.Take.{Event}
 use Rattle.dw_desk.specs.declared.open_query.OpenQuery.{OpenQuery}
-
--- an event: its place, and what is held there
-abbrev pub Event : Type 0
-Event = Place × Held
 
 -- what is kept of a caller
 pub record Account : Type 0 where

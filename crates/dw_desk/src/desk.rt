@@ -1,6 +1,5 @@
 ghost use Rattle.std.specs.Prelude.{◌≡◌, ◌↔◌, ◌+◌, ◌-◌, ◌^◌, ◌<◌, ◌≤◌, ◌==◌, ◌||◌, true, [], IsTrue, length, Some, None, Ok, IfOk, MatchOption};
 ghost use Rattle.std.specs.Option.{option_copied};
-ghost use Rattle.dw_dict.specs.Rules.{IsRule};
 ghost use Rattle.dw_desk.specs.Batches.{are_before};
 
 use crate::OutOfMemory;
@@ -11,22 +10,12 @@ use crate::open_query::{BoundQuery, OpenQuery};
 use crate::page::page_of;
 use crate::take::{Tally, take_batch};
 use dw_dict::{Dict, FieldRule};
-use dw_event::{Cells, Days, Place, Report, UidMaker};
+use dw_event::{Days, Held, Place, Report, UidMaker};
 use dw_key::Text;
 use dw_vis::Auths;
 use dw_wire::{Query, Records, Reply, Request, Why};
 use std::alloc::Global;
 use std::collections::BTreeMap;
-
-/// The most records that can be counted.
-const MOST_RECORDS: usize = 4_294_967_295;
-
-/// What is held at a place: the cells of an event and the number of the batch that brought them.
-#[derive(Debug, Drop)]
-pub struct Held {
-    pub cells: Cells,
-    pub batch: u64,
-}
 
 /// The state of the machine: the events, the number of the last batch, the rules of fields, and what is
 /// kept of each caller.
@@ -41,7 +30,6 @@ pub struct Desk {
 }
 
 impl Desk {
-    ghost use Rattle.dw_wire.specs.Requests.{IsCounted, IsRuled};
     ghost use Rattle.dw_desk.specs.World.{nothing};
     ghost use Rattle.dw_desk.specs.Step.{step, allowed, asked_for, created, defined, dropped, paged, query_of};
     ghost use Rattle.dw_desk.specs.Desk.{world_of, account_of, is_owned, IsOutcome, Meets, Replies};
@@ -61,15 +49,14 @@ impl Desk {
     }
 
     /// Answers one request. Want of memory is a reply, which changes nothing, and which never comes to a line
-    /// that is no request, to a page of a query that is not the caller's, or to a close. A request that
-    /// `read_line` does not give is answered too, in what way is not said.
+    /// that is no request, to a page of a query that is not the caller's, or to a close.
     pub fn answer<U: UidMaker>(
         &mut self,
         alloc: Global,
         uids: &U,
         request: &Result<Request, Why>,
     ) -> Reply
-        ensures { IsCounted request.now → IsRuled request.now → Replies U.digest (world_of self.old) request.now result (world_of self.new) }
+        ensures { Replies U.digest (world_of self.old) request.now result (world_of self.new) }
     {
         match request {
             Err(why) => Reply::Malformed { why: *why },
@@ -78,7 +65,7 @@ impl Desk {
     }
 
     fn carry_out<U: UidMaker>(&mut self, alloc: Global, uids: &U, request: &Request) -> Reply
-        ensures { IsCounted (Ok request.now) → IsRuled (Ok request.now) → Replies U.digest (world_of self.old) (Ok request.now) result (world_of self.new) }
+        ensures { Replies U.digest (world_of self.old) (Ok request.now) result (world_of self.new) }
     {
         match request {
             Request::Define { field, rule } => self.define(field, *rule),
@@ -108,11 +95,8 @@ impl Desk {
     }
 
     fn define(&mut self, field: &Text, rule: FieldRule) -> Reply
-        ensures { IsRule rule → Meets true (defined (world_of self.old) field.now rule) (world_of self.old) result (world_of self.new) }
+        ensures { Meets true (defined (world_of self.old) field.now rule) (world_of self.old) result (world_of self.new) }
     {
-        if !is_rule(&rule) {
-            return Reply::OutOfMemory;
-        }
         if !self.may_define(field, &rule) {
             return Reply::NotEmpty;
         }
@@ -135,12 +119,9 @@ impl Desk {
     }
 
     fn ingest<U: UidMaker>(&mut self, alloc: Global, uids: &U, records: &Records) -> Reply
-        ensures { length records.now < 2 ^ 32 → Replies U.digest (world_of self.old) (Ok (Request.Ingest records.now)) result (world_of self.new) }
+        ensures { Replies U.digest (world_of self.old) (Ok (Request.Ingest records.now)) result (world_of self.new) }
     {
         let all = records.as_slice();
-        if all.len() > MOST_RECORDS {
-            return Reply::OutOfMemory;
-        }
         let last = self.last;
         match take_batch(alloc, &mut self.events, uids, last, all) {
             Ok(Some(tally)) => {
@@ -266,13 +247,6 @@ impl Desk {
             Reply::NotOwned
         }
     }
-}
-
-/// Whether a rule is reversed only where it is indexed.
-fn is_rule(rule: &FieldRule) -> bool
-    ensures { IsTrue result ↔ IsRule rule.now }
-{
-    rule.indexed || !rule.reversed
 }
 
 fn report_of(tally: Tally, last: u64) -> Report

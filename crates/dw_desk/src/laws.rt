@@ -1,4 +1,4 @@
-ghost use Rattle.dw_desk.specs.Laws.{PagesAreTheAnswer, SessionsKeep, SessionsKeepQueries, SessionsTell, StepsKeep, StepsKeepQueries, StepsTell};
+ghost use Rattle.dw_desk.specs.Laws.{SessionsKeep, SessionsKeepQueries, SessionsTell, StepsKeep, StepsKeepQueries, StepsTell};
 
 /// In each world that answers to requests leave, the events stand each place once, ascending by shard, type and
 /// uid, none is of a batch after the last one, no open query sees a later batch, and each has a number that its
@@ -21,12 +21,6 @@ pub fn steps_keep_queries()
 /// `steps_keep_queries` over a whole session.
 pub fn sessions_keep_queries()
     ensures { SessionsKeepQueries }
-{}
-
-/// The pages of a query, up to the one behind which no event stands, are together its answer.
-#[tactic(auto, using(crate::proofs::LawLemmas::pages_are_the_answer))]
-pub fn pages_are_the_answer()
-    ensures { PagesAreTheAnswer }
 {}
 
 /// No text of a step says that memory was wanting or that the store failed.

@@ -11,11 +11,11 @@ mod open_query;
 mod page;
 mod take;
 
-pub use desk::{Desk, Held};
+pub use desk::Desk;
+pub use dw_base::OutOfMemory;
+pub use dw_event::{Held, pages_are_the_answer};
 pub use dw_wire::{Query, Records, Reply, Request, Why};
 pub use laws::{
-    pages_are_the_answer, sessions_keep, sessions_keep_queries, sessions_tell, steps_keep,
-    steps_keep_queries, steps_tell,
+    sessions_keep, sessions_keep_queries, sessions_tell, steps_keep, steps_keep_queries, steps_tell,
 };
 pub use open_query::{BoundQuery, OpenQuery};
-pub use std::alloc::AllocError as OutOfMemory;

@@ -5,33 +5,19 @@ ghost use Rattle.dw_norm.specs.Normal.{norm};
 ghost use Rattle.dw_event.specs.Texts.{is_same};
 ghost use Rattle.dw_event.specs.Views.{view_of};
 ghost use Rattle.dw_desk.specs.Bound.{has_form};
-ghost use Rattle.dw_desk.specs.Answer.{answer_of, page_items, has_more, shown_of, is_answer, is_in_range, is_seen, satisfies};
+ghost use Rattle.dw_desk.specs.Answer.{answer_of, is_answer, satisfies};
+ghost use Rattle.dw_event.specs.Pages.{page_items, has_more};
+ghost use Rattle.dw_event.specs.Seen.{shown_of, is_seen};
+ghost use Rattle.dw_event.specs.Wanted.{is_in_range};
 
 use crate::OutOfMemory;
-use crate::desk::Held;
 use crate::open_query::{BoundQuery, OpenQuery};
-use dw_event::{Days, EventCell, Listed, Place, Shown, view_cells};
+use dw_event::{EventCell, Held, Listed, Place, Shown, view_cells};
 use dw_key::Text;
 use dw_norm::normal;
 use dw_vis::Auths;
 use std::alloc::Global;
 use std::collections::BTreeMap;
-
-/// The day of a shard: its first eight bytes.
-fn day_of(shard: &str) -> &[u8]
-    ensures { result.now ≡ take 8 shard.now }
-{
-    let bytes = shard.as_bytes();
-    &bytes[..bytes.len().min(8)]
-}
-
-fn is_within(days: &Days, shard: &str) -> bool
-    ensures { result ≡ is_in_range days.now shard.now }
-{
-    let day = day_of(shard);
-    days.first.as_str().as_bytes().cmp(day).is_le()
-        && day.cmp(days.last.as_str().as_bytes()).is_le()
-}
 
 fn same(a: &Text, b: &Text) -> bool
     ensures { result ≡ is_same a.now b.now }
@@ -96,7 +82,7 @@ fn answers(
 ) -> Result<bool, OutOfMemory>
     ensures { IfOk result (λ b. b ≡ (nat_le held.now.batch query.now.snapshot && (is_seen (shown_of query.now.auths (place.now, held.now)).view && is_answer query.now (shown_of query.now.auths (place.now, held.now))))) }
 {
-    if held.batch > query.snapshot || !is_within(&query.days, place.shard.as_str()) {
+    if held.batch > query.snapshot || !query.days.hold(place.shard.as_str()) {
         return Ok(false);
     }
     satisfies_query(alloc, query, held)

@@ -1,14 +1,13 @@
 ghost use Rattle.std.specs.Prelude.{◌≡◌, ◌≢◌, ◌+◌, ◌-◌, ◌<◌, ◌≤◌, ◌^◌, ◌++◌, ◌∷◌, [], length, IsTrue, Some, None, Ok, IfOk, OnOk, OnErr};
 ghost use Rattle.std.specs.Option.{option_copied};
-ghost use Rattle.dw_desk.specs.Take.{none_taken, with_record, with_records};
+ghost use Rattle.dw_event.specs.Take.{none_taken, with_record, with_records};
 ghost use Rattle.dw_desk.specs.Batches.{events_before, are_before};
 ghost use Rattle.dw_desk.specs.Desk.{taken_of, BatchTaken};
 ghost use Rattle.dw_desk.specs.Standing.{standing_of};
 
 use crate::OutOfMemory;
 use crate::caller::LAST_NUMBER;
-use crate::desk::Held;
-use dw_event::{Bad, BadReason, BadRecord, Cells, Listed, Place, Record, UidMaker, place};
+use dw_event::{Bad, BadReason, BadRecord, Cells, Held, Listed, Place, Record, UidMaker, place};
 use std::alloc::Global;
 use std::collections::BTreeMap;
 
@@ -76,8 +75,13 @@ fn compare(held: Option<&Held>, cells: &Cells) -> Standing
 {
     match held {
         None => Standing::Free,
-        Some(held) if held.cells == *cells => Standing::Same,
-        Some(_) => Standing::Other,
+        Some(held) => {
+            if held.cells == *cells {
+                Standing::Same
+            } else {
+                Standing::Other
+            }
+        }
     }
 }
 

@@ -10,6 +10,6 @@ returns-in_err-bytes-in_default g c = record {
   err = on_err_always c.from_residual.result
       (λ bytes e. (
         reply_text c.answer.result,
-        answers_from g.U.UidMaker.digest (world_of c.args.desk.now) (world_of c.answer.new.self) bytes c.in-Ok.request c.answer.result (c.in-Ok.ensures.request bytes e) (c.answer.ensures c.in-Ok.ensures.counted c.in-Ok.ensures.ruled),
+        answers_from g.U.UidMaker.digest (world_of c.args.desk.now) (world_of c.answer.new.self) bytes c.in-Ok.request c.answer.result (c.in-Ok.ensures bytes e) c.answer.ensures,
       ));
 }

@@ -2,5 +2,5 @@ use Rattle.std.proofs.Common.{◌∙◌, sym}
 use Rattle.datawave.proofs.Requests.{too_long}
 use Rattle.datawave.proofs.exchange.request_of.Goals as goal
 
-pub returns-in-None-clause-request : goal.returns-in-None-clause-request
-returns-in-None-clause-request c bytes e = too_long bytes (sym c.in-None.ensures ∙ e)
+pub returns-in-None : goal.returns-in-None
+returns-in-None c bytes e = too_long bytes (sym c.in-None.ensures ∙ e)

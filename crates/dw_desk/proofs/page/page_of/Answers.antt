@@ -2,8 +2,9 @@ use Rattle.std.proofs.Common.{◌≡◌, ◌+◌, ◌*◌, ◌<◌, ◌∷◌, �
 use Rattle.std.specs.Map.Iter.{deref_pair}
 use Rattle.std.proofs.lemmas.Map.Iter.{rest_more}
 use Rattle.dw_event.specs.declared.reports.Shown.{Shown}
-use Rattle.dw_desk.specs.World.{Event}
-use Rattle.dw_desk.specs.Answer.{answer_of, shown_of}
+use Rattle.dw_event.specs.Take.{Event}
+use Rattle.dw_desk.specs.Answer.{answer_of}
+use Rattle.dw_event.specs.Seen.{shown_of}
 use Rattle.dw_desk.proofs.Paging.{Walked, answer_first, walked_shown, walked_passed}
 use Rattle.dw_desk.proofs.page.page_of.Goals as goal
 use Rattle.dw_desk.proofs.page.page_of.Goals.{then-found-before+in_ok-show+in_ok-put, else-found-before}

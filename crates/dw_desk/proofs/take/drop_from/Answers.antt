@@ -1,6 +1,6 @@
 use Rattle.std.proofs.Common.{rules, nat_lt}
 use Rattle.std.proofs.lemmas.Map.Made.{filter_same_pairs}
-use Rattle.dw_desk.specs.World.{Event}
+use Rattle.dw_event.specs.Take.{Event}
 use Rattle.dw_desk.proofs.take.drop_from.Goals as goal
 
 pub returns : goal.returns

@@ -1,6 +1,6 @@
 use Rattle.std.proofs.Common.{◌≡◌, ◌+◌, ◌<◌, ap, ◌∙◌, subst, arith, ℕ, IsTrue}
 use Rattle.dw_desk.specs.Batches.{are_before}
-use Rattle.dw_desk.specs.Take.{Taken}
+use Rattle.dw_event.specs.Take.{Taken}
 use Rattle.dw_desk.proofs.Taking.{before_all, within_later, within_test, test_within}
 use Rattle.dw_desk.proofs.take.take_batch.Goals as goal
 

@@ -2,7 +2,7 @@ use Rattle.std.proofs.Common.{ap, ◌∙◌, sym, Result}
 use Rattle.std.proofs.lemmas.Result.{on_ok_weaker}
 use Rattle.dw_event.specs.declared.records.Record.{Record}
 use Rattle.dw_event.specs.declared.reports.BadRecord.{BadRecord}
-use Rattle.dw_desk.specs.Take.{with_record}
+use Rattle.dw_event.specs.Take.{with_record}
 use Rattle.dw_desk.specs.Desk.{taken_of}
 use Rattle.dw_desk.proofs.take.take_record.Goals as goal
 

@@ -1,5 +1,5 @@
 use Rattle.std.proofs.Common.{◌≡◌, ◌≤◌, ◌+◌, IsTrue, drop}
-use Rattle.dw_desk.specs.Take.{none_taken, with_records}
+use Rattle.dw_event.specs.Take.{none_taken, with_records}
 use Rattle.dw_desk.specs.Batches.{events_before, are_before}
 use Rattle.dw_desk.specs.Desk.{taken_of}
 use Rattle.dw_desk.proofs.take.take_records.Given as goal

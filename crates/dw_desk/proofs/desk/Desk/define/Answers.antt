@@ -7,12 +7,12 @@ use Rattle.dw_desk.proofs.desk.Desk.define.Goals as goal
 
 pub returns-then-not-may_define : goal.returns-then-not-may_define
 unfolding world_of
-returns-then-not-may_define c ruled =
+returns-then-not-may_define c =
     inl (defined_not (world_of c.args.self.now) c.args.field.now c.args.rule (sym c.may_define.ensures ∙ c.if-not-may_define.true))
 
 pub returns-in-Ok : goal.returns-in-Ok
 unfolding world_of
-returns-in-Ok c ruled =
+returns-in-Ok c =
     let d = c.args.self.now in
     inl (defined_ok (world_of d) (world_from d.events.entries d.last c.define.new.self d.callers) c.args.field.now c.args.rule (sym c.may_define.ensures ∙ c.if-not-may_define.false)
     (ap (λ (m : Dictionary). world_from d.events.entries d.last m d.callers)

@@ -4,9 +4,10 @@ use Rattle.dw_wire.specs.declared.request.Request.TheVariants.{Ingest}
 use Rattle.dw_event.specs.declared.records.Record.{Record}
 use Rattle.dw_event.specs.declared.reports.BadRecord.{BadRecord}
 use Rattle.dw_desk.specs.declared.take.Tally.{Tally}
-use Rattle.dw_desk.specs.World.{Event, World}
-use Rattle.dw_desk.specs.Take.{Taken, none_taken, with_records}
-use Rattle.dw_desk.specs.Step.{step, last_after}
+use Rattle.dw_event.specs.Take.{Event}
+use Rattle.dw_desk.specs.World.{World}
+use Rattle.dw_event.specs.Take.{Taken, none_taken, with_records, last_after}
+use Rattle.dw_desk.specs.Step.{step}
 use Rattle.dw_desk.specs.Desk.{world_of, Replies, BatchTaken, taken_of}
 use Rattle.dw_desk.proofs.DeskLemmas.{world_from, ingested_taken, ingested_spent, added_some, added_none}
 use Rattle.dw_desk.proofs.desk.Desk.ingest.Goals as goal
@@ -17,14 +18,14 @@ Records = List (Result Record BadRecord)
 
 pub returns-after-tally-gt0 : goal.returns-after-tally-gt0
 unfolding step world_of
-returns-after-tally-gt0 g c counted =
+returns-after-tally-gt0 g c =
     let d = c.args.self.now in
     let w : World = world_from d.events.entries d.last d.dict d.callers in
     let all : Taken = with_records g.U.UidMaker.digest (d.last + 1) (none_taken d.events.entries) c.as_slice-all.result.now in
     let events = c.take_batch.new.events in
     let tally = c.in-Ok-Some.tally in
     let taken = subst (λ (o : Option Tally). BatchTaken d.last all d.events events o) c.in-Ok-Some.field-0-is c.in-Ok-Some.ensures.taken in
-    let at : c.if-tally-gt0.self.last ≡ last_after w (taken_of events tally) = elim c.if-tally-gt0.branch [
+    let at : c.if-tally-gt0.self.last ≡ last_after w.last (taken_of events tally) = elim c.if-tally-gt0.branch [
       | then-tally-gt0 t ↦ ap (λ s. s.last) t.self-is ∙ sym (added_some w (taken_of events tally) t.if-tally-gt0.true)
       | else-tally-gt0 t ↦ ap (λ s. s.last) t.self-is ∙ sym (added_none w (taken_of events tally) t.if-tally-gt0.false)
     ] in
@@ -33,23 +34,23 @@ returns-after-tally-gt0 g c counted =
       | else-tally-gt0 t ↦ ap world_of t.self-is ∙ ap (λ (n : ℕ). world_from events.entries n d.dict d.callers) (sym (ap (λ s. s.last) t.self-is))
     ] in
     let base = ingested_taken w all events tally c.if-tally-gt0.self.last taken.0 taken.1 at in
-    subst (λ (rs : Records). Replies g.U.UidMaker.digest w (Ok (Ingest rs)) (Ingested c.report_of.result) (world_of c.if-tally-gt0.self)) c.as_slice-all.ensures
+    subst (λ (rs : Records). Replies g.U.UidMaker.digest w (Ok (Ingest rs)) (Ingested c.report_of.result) (world_of c.if-tally-gt0.self)) c.as_slice-all.ensures.same
     (inl (ap Ingested c.report_of.ensures ∙ base.0, kept ∙ base.1))
 
 pub returns-in-Ok-None : goal.returns-in-Ok-None
 unfolding step world_of
-returns-in-Ok-None g c counted =
+returns-in-Ok-None g c =
     let d = c.args.self.now in
     let w : World = world_from d.events.entries d.last d.dict d.callers in
     let all : Taken = with_records g.U.UidMaker.digest (d.last + 1) (none_taken d.events.entries) c.as_slice-all.result.now in
     let taken = subst (λ (o : Option Tally). BatchTaken d.last all d.events c.take_batch.new.events o) c.in-Ok-None.field-0-is c.in-Ok-None.ensures.taken in
     let base = ingested_spent w all taken.0 taken.1 in
-    subst (λ (rs : Records). Replies g.U.UidMaker.digest w (Ok (Ingest rs)) Spent (world_from c.take_batch.new.events.entries d.last d.dict d.callers)) c.as_slice-all.ensures
+    subst (λ (rs : Records). Replies g.U.UidMaker.digest w (Ok (Ingest rs)) Spent (world_from c.take_batch.new.events.entries d.last d.dict d.callers)) c.as_slice-all.ensures.same
     (inl (base.0, ap (λ (es : List Event). world_from es d.last d.dict d.callers) taken.2 ∙ base.1))
 
 pub returns-in-Err : goal.returns-in-Err
 unfolding step world_of
-returns-in-Err g c counted =
+returns-in-Err g c =
     let d = c.args.self.now in
     let w : World = world_from d.events.entries d.last d.dict d.callers in
     inr (refl, ap (λ (es : List Event). world_from es d.last d.dict d.callers) c.in-Err.ensures.err, refl)

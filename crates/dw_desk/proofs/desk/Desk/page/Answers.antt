@@ -2,7 +2,8 @@ use Rattle.std.proofs.Common.{ap, ◌∙◌, sym, subst, refl, inl, Option, Bool
 use Rattle.dw_event.specs.declared.reports.Shown.{Shown}
 use Rattle.dw_wire.specs.declared.reply.Reply.TheVariants.{Paged}
 use Rattle.dw_desk.specs.declared.open_query.OpenQuery.{OpenQuery}
-use Rattle.dw_desk.specs.Answer.{answer_of, page_items}
+use Rattle.dw_desk.specs.Answer.{answer_of}
+use Rattle.dw_event.specs.Pages.{page_items}
 use Rattle.dw_desk.specs.Step.{paged}
 use Rattle.dw_desk.specs.Desk.{world_of, is_owned, Meets}
 use Rattle.dw_desk.proofs.desk.Desk.page.Goals as goal
