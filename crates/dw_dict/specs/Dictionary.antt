@@ -1,8 +1,6 @@
 -- The dictionary as a map from the names of fields to their rules.
-use mathlib.Core.Bool.{Bool-set}
-use mathlib.Core.Path.{sym}
-use Rattle.std.proofs.lemmas.Bool.{true≢false}
-use Rattle.std.specs.Prelude.{◌≡◌, ℕ, zero, suc, Bool, true, false, ◌||◌, IsTrue, List, map as list_map, refl, String, string_bytes, unwrap_or}
+use mathlib.Core.Path.{sym, ap}
+use Rattle.std.specs.Prelude.{◌≡◌, ℕ, zero, suc, Bool, false, List, map as list_map, refl, String, string_bytes, unwrap_or}
 use Rattle.std.specs.Ordering.{nat_cmp}
 use Rattle.std.specs.Cmp.Lexicographic.{slice_cmp}
 use Rattle.std.specs.FinMap as map
@@ -11,7 +9,7 @@ use Rattle.std.specs.declared.alloc.Global.{Global}
 use Rattle.dw_norm.specs.declared.kind.Kind.{Kind}
 use Rattle.dw_norm.specs.declared.kind.Kind.TheVariants.{Text, Noop, Number, Date, Ipv4}
 use Rattle.dw_dict.specs.declared.rule.FieldRule.{FieldRule}
-use Rattle.dw_dict.specs.Rules.{kind_number}
+use Rattle.dw_dict.specs.Rules.{kind_number, field_rule, rule_found}
 
 -- from the names of the fields that were defined to their rules
 abbrev pub Dictionary : Type 0
@@ -48,20 +46,14 @@ kind_again Ipv4 = refl
 abbrev pub kind_code : Coded Kind
 kind_code = code_by ℕ coded_ℕ kind_number kind_at kind_again
 
-pub ruled_by : (indexed reversed : Bool) → IsTrue reversed → IsTrue (indexed || reversed)
-ruled_by true reversed h = refl
-ruled_by false reversed h = h
-
 abbrev pub rule_at : Kind × (Bool × Bool) → FieldRule
-rule_at p = record { kind = p.0; indexed = p.1.0 || p.1.1; reversed = p.1.1; ruled = ruled_by p.1.0 p.1.1 }
+rule_at p = unwrap_or (field_rule p.0 p.1.0 p.1.1) undefined
 
-pub rule_again : (kind : Kind) (indexed reversed : Bool) (ruled : IsTrue reversed → IsTrue indexed) → rule_at (kind, (indexed, reversed)) ≡ record { kind = kind; indexed = indexed; reversed = reversed; ruled = ruled }
-rule_again kind true reversed ruled = λ i. record { kind = kind; indexed = true; reversed = reversed; ruled = λ h. Bool-set true true (ruled_by true reversed h) (ruled h) i }
-rule_again kind false true ruled = absurd (true≢false (sym (ruled refl)))
-rule_again kind false false ruled = λ i. record { kind = kind; indexed = false; reversed = false; ruled = λ h. Bool-set false true (ruled_by false false h) (ruled h) i }
+pub rule_again : (r : FieldRule) → rule_at (r.kind, (r.indexed, r.reversed)) ≡ r
+rule_again r = ap (λ o. unwrap_or o undefined) (sym (rule_found r.kind r.indexed r.reversed r.ruled))
 
 abbrev pub rule_code : Coded FieldRule
-rule_code = code_by (Kind × (Bool × Bool)) (coded× kind_code (coded× coded_bool coded_bool)) (λ r. (r.kind, (r.indexed, r.reversed))) rule_at (λ r. rule_again r.kind r.indexed r.reversed r.ruled)
+rule_code = code_by (Kind × (Bool × Bool)) (coded× kind_code (coded× coded_bool coded_bool)) (λ r. (r.kind, (r.indexed, r.reversed))) rule_at rule_again
 
 abbrev pub dictionary_code : Coded Dictionary
 dictionary_code = map.code (coded_list coded_ℕ) rule_code

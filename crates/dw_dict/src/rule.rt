@@ -1,4 +1,4 @@
-ghost use Rattle.std.specs.Prelude.{◌≡◌, ◌↔◌, IsTrue, IfSome, IsNone, false};
+ghost use Rattle.std.specs.Prelude.{◌≡◌, ◌↔◌, IsTrue};
 
 use dw_norm::Kind;
 
@@ -13,14 +13,11 @@ pub struct FieldRule {
 }
 
 impl FieldRule {
-    ghost use Rattle.dw_dict.specs.Rules.{Widens, widens};
+    ghost use Rattle.dw_dict.specs.Rules.{field_rule, Widens, widens};
 
     /// The rule of these parts, or none where values would be indexed back to front alone.
     pub fn of(kind: Kind, indexed: bool, reversed: bool) -> Option<FieldRule>
-        ensures kind { IfSome result (λ rule. rule.kind ≡ kind) }
-        ensures indexed { IfSome result (λ rule. rule.indexed ≡ indexed) }
-        ensures reversed { IfSome result (λ rule. rule.reversed ≡ reversed) }
-        ensures none { IsNone result ↔ (IsTrue reversed × (indexed ≡ false)) }
+        ensures { result ≡ field_rule kind indexed reversed }
     {
         if reversed && !indexed {
             return None;
