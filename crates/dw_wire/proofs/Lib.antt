@@ -6,4 +6,3 @@ pub mod ReadingNames
 pub mod ReadingNumbers
 pub mod ReadingQueries
 pub mod ReadingRecords
-pub mod Rules

@@ -1,5 +1,5 @@
 -- What request a line is.
-use Rattle.std.specs.Prelude.{ℕ, ◌+◌, ◌-◌, ◌*◌, ok_or, ◌^◌, ◌==◌, ◌&&◌, ◌||◌, Bool, true, false, not, nat_le, List, [], ◌∷◌, ◌++◌, length, take, drop, Option, Some, None, Result, Ok, Err, option_map, option_and_then, is_some, codes, if◌then◌else◌, refl}
+use Rattle.std.specs.Prelude.{ℕ, ◌+◌, ◌-◌, ◌*◌, ok_or, ◌^◌, ◌==◌, ◌&&◌, ◌||◌, Bool, true, false, not, nat_le, List, [], ◌∷◌, ◌++◌, length, take, drop, Option, Some, None, Result, Ok, Err, option_map, option_and_then, is_some, codes, if◌then◌else◌}
 use Rattle.std.specs.List.{list_any, list_all, before_first}
 use Rattle.std.specs.Str.{is_utf8, bytes_eq, str_to_ascii_uppercase}
 use Rattle.serde_json.specs.Data.{Data, Items, no_items, item, Members, no_members, member}
@@ -22,6 +22,7 @@ use Rattle.dw_event.specs.declared.reports.BadRecord.{BadRecord}
 use Rattle.dw_event.specs.declared.reports.BadRecord.TheVariants.{Visibility}
 use Rattle.dw_norm.specs.declared.kind.Kind.{Kind}
 use Rattle.dw_norm.specs.declared.kind.Kind.TheVariants.{Text, Noop, Number, Date, Ipv4}
+use Rattle.dw_dict.specs.Rules.{field_rule}
 use Rattle.dw_dict.specs.declared.rule.FieldRule.{FieldRule}
 use Rattle.dw_wire.specs.declared.reading.gathered.Gathered.{Gathered}
 use Rattle.dw_wire.specs.declared.request.Request.{Request}
@@ -226,15 +227,10 @@ kind_of name =
     else if bytes_eq name (codes "IPV4") then Some Ipv4
     else None
 
--- the rule of these parts, where `reversed` stands only with `indexed`
-abbrev pub rule_of_parts : Kind → Bool → Bool → Option FieldRule
-rule_of_parts kind true reversed = Some (record { kind = kind; indexed = true; reversed = reversed; ruled = λ _. refl })
-rule_of_parts kind false true = None
-rule_of_parts kind false false = Some (record { kind = kind; indexed = false; reversed = false; ruled = λ h. h })
-
+-- the rule that the members of a definition make, where `reversed` stands only with `indexed`
 abbrev pub rule_at : Data → Option FieldRule
 rule_at d =
-    option_and_then (λ kind. option_and_then (λ indexed. option_and_then (λ reversed. rule_of_parts kind indexed reversed)
+    option_and_then (λ kind. option_and_then (λ indexed. option_and_then (λ reversed. field_rule kind indexed reversed)
     (bool_at (codes "reversed") d)) (bool_at (codes "indexed") d)) (option_and_then kind_of (text_at (codes "kind") d))
 
 -- the field that is defined, in upper case

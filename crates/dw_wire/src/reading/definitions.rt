@@ -1,6 +1,6 @@
 ghost use Rattle.std.specs.Prelude.{◌≡◌, IfOk};
 ghost use Rattle.serde_json.specs.View.{view};
-ghost use Rattle.dw_wire.specs.ReadLine.{field_at, kind_of, rule_at, rule_of_parts};
+ghost use Rattle.dw_wire.specs.ReadLine.{field_at, kind_of, rule_at};
 
 use crate::OutOfMemory;
 use crate::reading::members::{bool_member, text_member};
@@ -31,12 +31,6 @@ fn kind_named(name: &str) -> Option<Kind>
     None
 }
 
-fn rule_from(kind: Kind, indexed: bool, reversed: bool) -> Option<FieldRule>
-    ensures { result ≡ rule_of_parts kind indexed reversed }
-{
-    FieldRule::of(kind, indexed, reversed)
-}
-
 /// The rule that a definition gives: a kind by its name and two truth values, `reversed` only with
 /// `indexed`.
 pub fn member_rule(value: &Value) -> Option<FieldRule>
@@ -46,7 +40,7 @@ pub fn member_rule(value: &Value) -> Option<FieldRule>
     let kind = kind_named(name)?;
     let indexed = bool_member(value, "indexed")?;
     let reversed = bool_member(value, "reversed")?;
-    rule_from(kind, indexed, reversed)
+    FieldRule::of(kind, indexed, reversed)
 }
 
 /// The name of a field that the member `field` is, in upper case.
