@@ -24,6 +24,12 @@ impl Twin for Bytes {
     }
 }
 
+impl Twin for u32 {
+    fn copy(&self) -> Result<u32, OutOfMemory> {
+        Ok(*self)
+    }
+}
+
 impl Twin for [u8; 32] {
     fn copy(&self) -> Result<[u8; 32], OutOfMemory> {
         Ok(*self)

@@ -6,13 +6,14 @@
 
 mod claims;
 mod drawing;
-mod numbers;
 mod wave;
 
 pub use claims::{Claimed, Claims, Pass, Unclosed};
-pub use numbers::Numbers;
-pub use std::alloc::AllocError as OutOfMemory;
+pub use dw_base::OutOfMemory;
 pub use wave::{Gate, Job, OpenGate, run_wave};
+
+/// Numbers of jobs.
+pub type Numbers = dw_base::Listed<u32>;
 
 #[cfg(test)]
 mod tests;
