@@ -1,3 +1,6 @@
 pub mod Faults
+pub mod Links
 pub mod Moved
 pub mod Memory
+pub mod Doors
+pub mod Streams

@@ -1,5 +1,6 @@
-use Rattle.std.specs.Prelude.{◌≡◌, ◌≢◌, ℕ, ◌-◌, List, [], ◌++◌, length, take, drop, Contains, Result, Ok, Err}
+use Rattle.std.specs.Prelude.{◌≡◌, ◌≢◌, ℕ, ◌-◌, List, [], ◌++◌, length, take, drop, Contains, Result, Ok, Err, Some}
 use Rattle.dw_outside.specs.Faults.{one_more}
+use Rattle.dw_outside.specs.Links.{Meaning}
 
 -- a source in memory: the bytes left, the most that a call gives, the numbers of the calls that fail, the calls made and those that failed
 pub record MemoryInput : Type 0 where
@@ -38,3 +39,15 @@ output_after output bytes (Err e) = record output { calls = one_more output.call
 -- the sink has no room left for a piece that is not empty
 abbrev pub IsFull : MemoryOutput → List ℕ → Type 0
 IsFull output bytes = (room_left output ≡ 0) × (bytes ≢ [])
+
+-- a link in memory
+pub record MemoryLink : Type 0 where
+  pub input : MemoryInput
+  pub output : MemoryOutput
+
+-- what it means
+abbrev pub memory_meaning : MemoryLink → Meaning
+memory_meaning l = record {
+  reading = record { bytes = Some l.input.left; faults = l.input.faults };
+  writing = record { bytes = Some l.output.taken; faults = l.output.faults };
+}

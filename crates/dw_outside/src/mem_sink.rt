@@ -2,6 +2,7 @@ ghost use Rattle.std.specs.Prelude.{◌≡◌, ◌⊎◌, ◌↔◌, ◌<◌, �
 ghost use Rattle.std.specs.Io.{WritesAtMost};
 ghost use Rattle.std.specs.Io.KnownBytes.{append_known};
 ghost use Rattle.dw_outside.specs.Faults.{Rose};
+ghost use Rattle.dw_outside.specs.Links.{no_side};
 ghost use Rattle.dw_outside.specs.Moved.{done_bytes};
 ghost use Rattle.dw_outside.specs.Memory.{FailsNext, IsFull, output_after, room_left};
 
@@ -77,6 +78,7 @@ impl Sink for MemSink {
         ensures bytes { Some self.new.taken ≡ append_known (Some self.old.taken) (done_bytes result bytes.now) }
         ensures counted { self.old.faults ≤ self.new.faults }
         ensures failed { OnErr result (Rose self.old.faults self.new.faults) }
+        ensures beside { no_side ≡ no_side }
 
         // It fails at the named calls and where it is full, and nowhere else.
         ensures fails { IsErr result ↔ (FailsNext self.old.fail_calls self.old.calls ⊎ IsFull self.old bytes.now) }

@@ -2,6 +2,7 @@ ghost use Rattle.std.specs.Prelude.{◌≡◌, ◌↔◌, ◌<◌, ◌≤◌, So
 ghost use Rattle.std.specs.Io.{ReadsAtMost};
 ghost use Rattle.std.specs.Io.KnownBytes.{prepend_known, IsAtEnd};
 ghost use Rattle.dw_outside.specs.Faults.{Rose};
+ghost use Rattle.dw_outside.specs.Links.{no_side};
 ghost use Rattle.dw_outside.specs.Moved.{done_bytes};
 ghost use Rattle.dw_outside.specs.Memory.{FailsNext, input_after};
 
@@ -70,6 +71,7 @@ impl Source for MemSource {
         ensures ended { IfOk result (λ n. n ≡ 0 → 0 < length buf.new → IsAtEnd (Some self.new.left)) }
         ensures counted { self.old.faults ≤ self.new.faults }
         ensures failed { OnErr result (Rose self.old.faults self.new.faults) }
+        ensures beside { no_side ≡ no_side }
 
         // It fails at the named calls and at no others.
         ensures fails { IsErr result ↔ FailsNext self.old.fail_calls self.old.calls }

@@ -1,9 +1,14 @@
-ghost use Rattle.std.specs.Prelude.{◌≡◌, IfOk};
+ghost use Rattle.std.specs.Prelude.{◌≡◌, false, IfOk, IfSome};
 
-use crate::{Failed, MemSink, MemSource, Sink, Source, StdInput, StdOutput};
+use crate::{
+    Door, Failed, Link, MemDoor, MemLink, MemSink, MemSource, Sink, Source, StdInput, StdOutput,
+    TcpDoor,
+};
 use dw_key::Bytes;
+use std::alloc::{AllocError, Global};
 use std::io;
 use std::io::{Cursor, Error, ErrorKind, Read, Write};
+use std::net::{Ipv4Addr, SocketAddr, SocketAddrV4, TcpStream};
 use std::test::Fail;
 
 #[test]
@@ -112,4 +117,75 @@ fn a_writer_is_a_sink(rt: HostRuntime) {
     assert_eq!(rt; broken.put(b"ab"), Err(Failed));
     let mut full = StdOutput::new(Cursor::new([0u8; 0]));
     assert_eq!(rt; full.put(b"ab"), Err(Failed));
+}
+
+fn link_of(alloc: Global, text: &[u8], fail_calls: Vec<u64>) -> Result<MemLink, AllocError> {
+    let source = MemSource::new(Bytes::of(alloc, text)?, 3, fail_calls);
+    let sink = MemSink::new(alloc, 16, Vec::new(alloc))?;
+    Ok(MemLink::new(source, sink))
+}
+
+#[test]
+fn a_door_gives_its_links_in_order_and_keeps_those_handed_back(
+    rt: HostRuntime,
+) -> Result<(), Fail> {
+    let alloc = rt.alloc();
+    let mut links = Vec::new(alloc);
+    links.push(link_of(alloc, b"ab", Vec::new(alloc))?)?;
+    links.push(link_of(alloc, b"cd", vec![in alloc; 1u64]?)?)?;
+    let mut door = MemDoor::new(alloc, links, vec![in alloc; 2u64]?)?;
+    let Ok(Some(mut first)) = door.admit() else {
+        panic!(rt; "no link")
+    };
+    let mut buf = [0u8; 4];
+    assert_eq!(rt; first.receive(&mut buf), Ok(2));
+    assert_eq!(rt; first.send(&buf[..2]), Ok(()));
+    door.dismiss(first);
+    assert!(rt; matches!(door.admit(), Err(Failed)));
+    let Ok(Some(mut second)) = door.admit() else {
+        panic!(rt; "no link")
+    };
+    assert_eq!(rt; second.receive(&mut buf), Err(Failed));
+    assert_eq!(rt; second.receive(&mut buf), Ok(2));
+    door.dismiss(second);
+    assert!(rt; matches!(door.admit(), Ok(None)));
+    let past = door.past();
+    assert_eq!(rt; past.len(), 2);
+    assert_eq!(rt; past[0].sink().bytes(), b"ab".as_slice());
+    assert_eq!(rt; past[1].sink().bytes(), b"".as_slice());
+    Ok(())
+}
+
+/// A door at a port that is free, and the port.
+fn open_door(rt: &HostRuntime) -> Option<(TcpDoor<HostRuntime>, u16)>
+    ensures { IfSome result (λ opened. opened.0.out ≡ false) }
+{
+    for port in 28_100..28_200 {
+        if let Ok(door) = TcpDoor::bind(rt, port) {
+            return Some((door, port));
+        }
+    }
+    None
+}
+
+// The peer connects and writes before the door admits it, so that no thread is wanted.
+#[test]
+fn a_connection_is_a_link(rt: HostRuntime) -> Result<(), Fail> {
+    let (mut door, port) = open_door(&rt).ok_or("no port is free")?;
+    let address = SocketAddr::V4(SocketAddrV4::new(Ipv4Addr::LOCALHOST, port));
+    let mut peer = TcpStream::connect(&rt, address)?;
+    peer.write_all(b"ask")?;
+    let Ok(Some(mut link)) = door.admit() else {
+        panic!(rt; "no link")
+    };
+    let mut buf = [0u8; 8];
+    assert_eq!(rt; link.receive(&mut buf), Ok(3));
+    assert_eq!(rt; &buf[..3], b"ask".as_slice());
+    assert_eq!(rt; link.send(b"reply"), Ok(()));
+    let mut got = [0u8; 5];
+    peer.read_exact(&mut got)?;
+    assert_eq!(rt; got, *b"reply");
+    door.dismiss(link);
+    assert_eq!(rt; peer.read(&mut got)?, 0);
+    Ok(())
 }

@@ -1,0 +1,14 @@
+use Rattle.std.proofs.Common.{◌≡◌, ◌≤◌, ◌-◌, length, take}
+use Rattle.std.specs.Io.KnownBytes.{append_known}
+use Rattle.dw_outside.proofs.link.put_all.Given as goal
+
+abbrev pub invariant-loop-at : goal.invariant-loop-at
+invariant-loop-at g l = record {
+  counted : g.K.Sink.faults l.fn.sink ≤ g.K.Sink.faults l.sink;
+  within : l.at ≤ length l.bytes;
+  begun : g.K.Sink.taken l.sink ≡ append_known (g.K.Sink.taken l.fn.sink) (take l.at l.bytes);
+  beside : g.K.Sink.beside l.sink ≡ g.K.Sink.beside l.fn.sink;
+}
+
+abbrev pub decreases-loop-at : goal.decreases-loop-at
+decreases-loop-at g l = length l.bytes - l.at
