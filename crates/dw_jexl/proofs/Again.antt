@@ -237,7 +237,7 @@ between_again w op l or m u low high =
     (beside right (codes "))") _ (λ ts. Close ∷ Close ∷ ts) higher (beside (codes ")") (codes ")") (λ ts. Close ∷ ts) (λ ts. Close ∷ ts) close_read close_read))))))
 
 -- which two sides make a bounded
-sides : (same low high : Bool) (x y q : Query) → cond (not same) None (cond low (Some x) (cond high (Some y) None)) ≡ Some q → ((low ≡ true) × (x ≡ q)) ⊎ ((high ≡ true) × (y ≡ q))
+pub sides : (same low high : Bool) (x y q : Query) → cond (not same) None (cond low (Some x) (cond high (Some y) None)) ≡ Some q → ((low ≡ true) × (x ≡ q)) ⊎ ((high ≡ true) × (y ≡ q))
 sides false low high x y q h = cc
 sides true true high x y q h = inl (refl, ap (λ o. unwrap_or o q) h)
 sides true false true x y q h = inr (refl, ap (λ o. unwrap_or o q) h)
@@ -332,20 +332,20 @@ or_again q d b =
     node (more c k) = refl
 
 -- what is known of the tokens of a text that spells a query
-record Known (ts : List Token) : Type 0 where
-  named : AreNamed ts
-  right : are_right ts ≡ true
+pub record Known (ts : List Token) : Type 0 where
+  pub named : AreNamed ts
+  pub right : are_right ts ≡ true
 
-behind : (t : Token) (ts : List Token) → Known (t ∷ ts) → Known ts
+pub behind : (t : Token) (ts : List Token) → Known (t ∷ ts) → Known ts
 unfolding are_right
 behind t ts k = record { named = k.named.1; right = (and_parts (cond (is_match t) (first_is_right ts) true) (are_right ts) k.right).1 }
 
-past : (n : ℕ) (ts : List Token) → Known ts → Known (drop n ts)
+pub past : (n : ℕ) (ts : List Token) → Known ts → Known (drop n ts)
 past zero ts k = k
 past (suc n) [] k = k
 past (suc n) (t ∷ ts) k = past n ts (behind t ts k)
 
-matched : (n : Bool) (raw : List ℕ) (ts : List Token) → Known (Match n ∷ Quoted raw ∷ ts) → is_right (pieces raw) ≡ true
+pub matched : (n : Bool) (raw : List ℕ) (ts : List Token) → Known (Match n ∷ Quoted raw ∷ ts) → is_right (pieces raw) ≡ true
 unfolding are_right
 matched n raw ts k = (and_parts (is_right (pieces raw)) (are_right (Quoted raw ∷ ts)) k.right).0
 

@@ -16,3 +16,4 @@ pub mod Named
 pub mod Written
 pub mod Wildcards
 pub mod Again
+pub mod Made

@@ -1,6 +1,6 @@
 -- Words of a text, and fields in upper case.
 use Rattle.std.proofs.Common.{◌≡◌, ℕ, ◌≤◌, Bool, true, false, cond, List, [], ◌∷◌, length, refl, ap, ◌∙◌, arith}
-use Rattle.std.specs.Prelude.{not, ◌&&◌, ◌==◌, nat_le, bytes_eq, codes}
+use Rattle.std.specs.Prelude.{not, ◌==◌, nat_le, bytes_eq, codes}
 use Rattle.std.specs.Char.{to_ascii_uppercase}
 use Rattle.std.proofs.lemmas.Bool.{and_parts, and_from, and_left, and_right, or_from, not_from_false}
 use Rattle.std.proofs.lemmas.Bool.Decides.{nat_tests}
@@ -8,16 +8,8 @@ use Rattle.std.proofs.lemmas.List.{length-map}
 use Rattle.std.proofs.lemmas.Str.Ascii.{uppercase-uppercase}
 use Rattle.dw_jexl.specs.declared.token.Token.{Token}
 use Rattle.dw_jexl.specs.declared.token.Token.TheVariants.{Name}
-use Rattle.dw_jexl.specs.Tokens.{starts_word, in_word, word_token}
+use Rattle.dw_jexl.specs.Tokens.{starts_word, in_word, first_starts, all_in_word, word_token}
 use Rattle.dw_jexl.specs.Grammar.{folded, is_reserved, is_field}
-
-abbrev pub first_starts : List ℕ → Bool
-first_starts [] = false
-first_starts (c ∷ cs) = starts_word c
-
-abbrev pub all_in_word : List ℕ → Bool
-all_in_word [] = true
-all_in_word (c ∷ cs) = in_word c && all_in_word cs
 
 -- a letter or `_`, and letters, digits and `_`
 pub record IsWord (w : List ℕ) : Type 0 where

@@ -1,9 +1,10 @@
 -- What texts, their queries and canonical texts have in common.
-use Rattle.std.specs.Prelude.{◌≡◌, ℕ, List, chars}
+use Rattle.std.specs.Prelude.{◌≡◌, ℕ, true, List, chars}
 use Rattle.dw_jexl.specs.declared.error.QueryRule.TheVariants.{TooLong, TooDeep}
 use Rattle.dw_jexl.specs.declared.query.Query.{Query}
 use Rattle.dw_jexl.specs.Spelling.{Spells, Breaks}
 use Rattle.dw_jexl.specs.Canonical.{canonical}
+use Rattle.dw_jexl.specs.WellMade.{is_well_made}
 
 -- a text spells at most one query
 abbrev pub TextsTellQueries : Type 0
@@ -24,3 +25,7 @@ SpellsAgain text q = (source : List ℕ) → Spells source q → KeepsLimits tex
 -- The canonical text of each query that some text spells is read again as that query.
 abbrev pub CanonicalTextsAreReadAgain : Type 0
 CanonicalTextsAreReadAgain = (source : List ℕ) (q : Query) → Spells source q → IsReadAgain q
+
+-- What a text spells is well made.
+abbrev pub QueriesOfTextsAreWellMade : Type 0
+QueriesOfTextsAreWellMade = (text : List ℕ) (q : Query) → Spells text q → is_well_made q ≡ true
