@@ -1,0 +1,8 @@
+use Rattle.dw_lucene.proofs.Verdict.{answers_only, answers_refuses}
+use Rattle.dw_lucene.proofs.parsing.parse_lucene.Goals as goal
+
+pub returns-clause-only : goal.returns-clause-only
+returns-clause-only c = λ q s. answers_only c.args.text.now c.read.result q c.read.ensures s
+
+pub returns-clause-refuses : goal.returns-clause-refuses
+returns-clause-refuses c = λ r b. answers_refuses c.args.text.now c.read.result r c.read.ensures b
