@@ -15,5 +15,6 @@ pub mod Upper
 pub mod Named
 pub mod Written
 pub mod Wildcards
-pub mod Again
+pub mod Known
 pub mod Made
+pub mod Again

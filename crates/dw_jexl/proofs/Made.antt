@@ -20,30 +20,30 @@ use Rattle.dw_jexl.specs.Spelling.{Spells, Answers}
 use Rattle.dw_jexl.specs.WellMade.{is_upper_field, are_all, are_several, well_made_step, is_well_made}
 use Rattle.dw_jexl.proofs.Upper.{IsUpper, upper}
 use Rattle.dw_jexl.proofs.Named.{read_named}
-use Rattle.dw_jexl.proofs.Again.{sides, Known, behind, past, matched}
+use Rattle.dw_jexl.proofs.Known.{sides, Known, behind, past, matched}
 
 -- each kind of query
-cmp_made : (w : List ℕ) (op : Op) (l : List ℕ) → is_well_made (query.Cmp w op l) ≡ is_upper_field w
+pub cmp_made : (w : List ℕ) (op : Op) (l : List ℕ) → is_well_made (query.Cmp w op l) ≡ is_upper_field w
 unfolding roll-Query roll
 cmp_made w op l = fold-roll-Query Bool well_made_step (layer.Cmp w op l)
 
-pattern_made : (w : List ℕ) (negated lead trail : Bool) (text : List ℕ) → is_well_made (query.Pattern w negated lead trail text) ≡ (is_upper_field w && nat_lt 0 (length text))
+pub pattern_made : (w : List ℕ) (negated lead trail : Bool) (text : List ℕ) → is_well_made (query.Pattern w negated lead trail text) ≡ (is_upper_field w && nat_lt 0 (length text))
 unfolding roll-Query roll
 pattern_made w negated lead trail text = fold-roll-Query Bool well_made_step (layer.Pattern w negated lead trail text)
 
-bounded_made : (w low : List ℕ) (low_open : Bool) (high : List ℕ) (high_open : Bool) → is_well_made (query.Bounded w low low_open high high_open) ≡ is_upper_field w
+pub bounded_made : (w low : List ℕ) (low_open : Bool) (high : List ℕ) (high_open : Bool) → is_well_made (query.Bounded w low low_open high high_open) ≡ is_upper_field w
 unfolding roll-Query roll
 bounded_made w low low_open high high_open = fold-roll-Query Bool well_made_step (layer.Bounded w low low_open high high_open)
 
-not_made : (q : Query) → is_well_made (query.Not q) ≡ is_well_made q
+pub not_made : (q : Query) → is_well_made (query.Not q) ≡ is_well_made q
 unfolding roll-Query roll
 not_made q = fold-roll-Query Bool well_made_step (layer.Not q)
 
-and_made : (qs : List Query) → is_well_made (query.And qs) ≡ (are_several (map is_well_made qs) && are_all (map is_well_made qs))
+pub and_made : (qs : List Query) → is_well_made (query.And qs) ≡ (are_several (map is_well_made qs) && are_all (map is_well_made qs))
 unfolding roll-Query roll
 and_made qs = fold-roll-Query Bool well_made_step (layer.And qs)
 
-or_made : (qs : List Query) → is_well_made (query.Or qs) ≡ (are_several (map is_well_made qs) && are_all (map is_well_made qs))
+pub or_made : (qs : List Query) → is_well_made (query.Or qs) ≡ (are_several (map is_well_made qs) && are_all (map is_well_made qs))
 unfolding roll-Query roll
 or_made qs = fold-roll-Query Bool well_made_step (layer.Or qs)
 
@@ -52,6 +52,14 @@ unfolding is_upper_field names_field is_word is_operator
 upper_field w u =
     let plain : not (not (is_plain (word_token w))) ≡ true = ap (λ t. not (not (is_plain t))) u.name in
     and_from _ _ (and_from _ _ (and_from _ _ (and_from _ _ u.word.starts u.word.goes_on) plain) u.field) ((bytes_eq-Decides (folded w) w).1 u.same)
+
+pub fields_fold : (f : List ℕ) → names_field f ≡ true → is_upper_field (folded f) ≡ true
+unfolding names_field is_word
+fields_fold f h =
+    let p = and_parts _ _ h in
+    let q = and_parts _ _ p.0 in
+    let r = and_parts _ _ q.0 in
+    upper_field (folded f) (upper f (record { starts = r.0; goes_on = r.1 }) p.1)
 
 right_has_text : (raw : List ℕ) → is_right (pieces raw) ≡ true → nat_lt 0 (length (text_of (pieces raw))) ≡ true
 unfolding is_right

@@ -19,7 +19,8 @@ mod word;
 pub use depth::is_deep;
 pub use error::{QueryError, QueryRule};
 pub use laws::{
-    canonical_texts_are_read_again, queries_of_texts_are_well_made, texts_tell_queries,
+    canonical_texts_are_read_again, fields_fold, queries_of_texts_are_well_made,
+    texts_tell_queries, well_made_queries_are_read,
 };
 pub use lex::{blanks, char_at, is_blank, quoted};
 pub use parsing::{LEVELS, MAX_BYTES, MAX_LEAVES, parse};

@@ -453,5 +453,5 @@ pub printed_read : QueriesOfTextsAreWellMade → PrintedTextsAreRead
 printed_read made source q s printable text e keeps =
     fit_read q (record { printable = printable; made = made source q s }) text e keeps s.few
 
-pub read_as : QueriesOfTextsAreWellMade → (text : List ℕ) (q : Query) → is_printable q ≡ true → chars text ≡ lucene_text q → IsReadAs text q
-read_as made text q printable e source s keeps = printed_read made source q s printable text e keeps
+pub read_as : (text : List ℕ) (q : Query) → is_printable q ≡ true → chars text ≡ lucene_text q → IsReadAs text q
+read_as text q printable e made few keeps = fit_read q (record { printable = printable; made = made }) text e keeps few

@@ -12,3 +12,4 @@ pub mod Texts
 pub mod Written
 pub mod Wildcards
 pub mod Again
+pub mod Made

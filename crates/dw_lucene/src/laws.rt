@@ -1,6 +1,6 @@
 //! What holds of all Lucene query texts. The functions do nothing: their contracts are laws.
 
-ghost use Rattle.dw_lucene.specs.Laws.{TextsTellQueries, PrintedTextsAreRead};
+ghost use Rattle.dw_lucene.specs.Laws.{TextsTellQueries, PrintedTextsAreRead, QueriesOfTextsAreWellMade};
 
 /// A text spells at most one query.
 pub fn texts_tell_queries()
@@ -13,4 +13,12 @@ pub fn printed_texts_are_read()
     ensures { PrintedTextsAreRead }
 {
     dw_jexl::queries_of_texts_are_well_made();
+}
+
+/// Each query that some text spells has its fields in upper case, text in each pattern and at least two children in each
+/// And and Or.
+pub fn queries_of_texts_are_well_made()
+    ensures { QueriesOfTextsAreWellMade }
+{
+    dw_jexl::fields_fold();
 }

@@ -27,7 +27,7 @@ mod printing;
 mod reading;
 mod token;
 
-pub use laws::{printed_texts_are_read, texts_tell_queries};
+pub use laws::{printed_texts_are_read, queries_of_texts_are_well_made, texts_tell_queries};
 pub use parsing::parse_lucene;
 pub use printing::print_lucene;
 pub use std::alloc::AllocError as OutOfMemory;

@@ -336,10 +336,10 @@ fn is_printable(query: &Query) -> bool
 /// pattern without a wildcard.
 pub fn print_lucene(alloc: Global, query: &Query) -> Result<Option<String>, OutOfMemory>
     ensures value { IfOk result (λ printed. MatchOption printed (is_printable query.now ≡ false) (λ text. (is_printable query.now ≡ true) × (chars (string_bytes text) ≡ lucene_text query.now))) }
-    // A query that some text of JEXL spells is read from what is printed, where that keeps the limits on length and depth.
+    // A query that is well made and has at most 256 leaves, as each that is parsed, is read from what is printed, where that
+    // keeps the limits on length and depth.
     ensures again { IfOk result (λ printed. IfSome printed (λ text. IsReadAs (string_bytes text) query.now)) }
 {
-    dw_jexl::queries_of_texts_are_well_made();
     if !is_printable(query) {
         return Ok(None);
     }

@@ -9,4 +9,4 @@ pub returns-clause-again : goal.returns-clause-again
 returns-clause-again c =
     let e : chars (string_bytes c.into_text.result) ≡ lucene_text c.args.query.now = grind (arith, common_steps) in
     let p : is_printable c.args.query.now ≡ true = grind (arith, common_steps, c.is_printable.ensures, c.if-not-is_printable.false) in
-    read_as c.queries_of_texts_are_well_made.ensures (string_bytes c.into_text.result) c.args.query.now p e
+    read_as (string_bytes c.into_text.result) c.args.query.now p e
