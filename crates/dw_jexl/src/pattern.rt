@@ -165,6 +165,7 @@ fn is_wild(piece: Piece) -> bool
     }
 }
 
+/// Whether the first piece is a wildcard.
 pub fn begins_wild(pieces: &[Piece]) -> bool
     ensures { result ≡ begins_wild pieces.now }
 {
@@ -174,6 +175,7 @@ pub fn begins_wild(pieces: &[Piece]) -> bool
     is_wild(pieces[0])
 }
 
+/// Whether the last piece is a wildcard.
 pub fn ends_wild(pieces: &[Piece]) -> bool
     ensures { result ≡ ends_wild pieces.now }
 {

@@ -81,6 +81,7 @@ impl Query {
         }
     }
 
+    /// The negation of a query.
     pub fn not(alloc: Global, child: Query) -> Result<Query, OutOfMemory>
         ensures { IfOk result (λ q. q ≡ query.Not child) }
     {

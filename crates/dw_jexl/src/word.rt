@@ -1,7 +1,7 @@
 ghost use Rattle.std.specs.Cmp.Lexicographic.{pointwise};
 ghost use Rattle.std.specs.Cmp.Rules.{comparing};
 ghost use Rattle.std.proofs.Common.{rules};
-ghost use Rattle.std.specs.Prelude.{nat_eq, ◌≡◌, [], ◌∷◌, ◌++◌, IfOk, OnOk, chars, encode_utf8_all, string_bytes};
+ghost use Rattle.std.specs.Prelude.{nat_eq, ◌≡◌, [], ◌∷◌, ◌++◌, IfOk, OnErr, OnOk, chars, encode_utf8_all, string_bytes};
 
 use crate::OutOfMemory;
 use std::alloc::Global;
@@ -57,7 +57,8 @@ impl Word {
 
     /// Adds a character at the end.
     pub fn push(&mut self, character: char) -> Result<(), OutOfMemory>
-        ensures { OnOk result (self.new ≡ self.old ++ character ∷ []) }
+        ensures ok { OnOk result (self.new ≡ self.old ++ character ∷ []) }
+        ensures err { OnErr result (self.new ≡ self.old) }
     {
         self.inner.push(character)
     }
