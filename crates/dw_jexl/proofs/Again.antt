@@ -1,31 +1,34 @@
 -- The canonical text of each query that is read is read as it again.
-use Rattle.std.proofs.Common.{◌≡◌, ℕ, zero, suc, ◌≤◌, Bool, true, false, cond, List, [], ◌∷◌, ◌++◌, length, map, drop, Some, None, refl, sym, ap, ◌∙◌, subst, arith, append_assoc, inl, inr}
-use Rattle.std.specs.Prelude.{not, ◌&&◌, ◌⊎◌, bytes_eq, codes, chars, unwrap_or, Result, Ok, Err, IfOk}
-use Rattle.std.proofs.lemmas.Bool.{and_parts, and_from, false_from_ne_true}
+use Rattle.std.proofs.Common.{◌≡◌, ℕ, ◌≤◌, Bool, true, false, cond, List, [], ◌∷◌, ◌++◌, length, map, Some, None, refl, sym, ap, ◌∙◌, subst, arith, append_assoc}
+use Rattle.std.specs.Prelude.{not, ◌&&◌, codes, chars, nat_lt, Result, Ok, Err, IfOk}
+use Rattle.std.proofs.lemmas.Bool.{and_parts, and_from, ltb-true, false_from_ne_true}
 use Rattle.std.proofs.lemmas.List.{append-nil}
 use Rattle.std.proofs.lemmas.Slice.Eq.{bytes_eq-Decides}
 use Rattle.dw_jexl.specs.declared.error.QueryError.{QueryError}
 use Rattle.dw_jexl.specs.declared.query.Op.{Op}
 use Rattle.dw_jexl.specs.declared.query.Op.TheVariants.{Eq, Ne, Lt, Le, Gt, Ge}
-use Rattle.dw_jexl.specs.declared.query.Query.{Query}
+use Rattle.dw_jexl.specs.declared.query.Query.{Query, map-Query}
 use Rattle.dw_jexl.specs.declared.query.Query.TheVariants as query
 use Rattle.dw_jexl.specs.declared.query.Query.TheOpen as layer
+use Rattle.dw_jexl.specs.declared.query.Query.TheOpen.{Query-F}
 use Rattle.dw_jexl.specs.declared.query.Query.TheViews.{roll-Query}
-use Rattle.dw_jexl.specs.declared.query.Query.TheFolds.{fold-roll-Query}
+use Rattle.dw_jexl.specs.declared.query.Query.TheFolds.{fold-roll-Query, ind-Query}
 use denote.Hole.Carrier.{roll}
 use Rattle.dw_jexl.specs.declared.token.Token.{Token}
 use Rattle.dw_jexl.specs.declared.token.Token.TheVariants.{Open, Close, Conjoin, Disjoin, Negate, Compare, Match, Name, Quoted}
-use Rattle.dw_jexl.specs.Tokens.{is_match, first_token, past_blanks, AreRead}
-use Rattle.dw_jexl.specs.Patterns.{pieces, text_of, begins_wild, ends_wild, is_right, first_is_right, are_right}
-use Rattle.dw_jexl.specs.Grammar.{folded, string, End, is_lower, is_upper, is_strict, between, bounded_by, joined, Disjunction, one, more, Conjunction, alone, joins, Unary, operand, comparison, matching, Operand, negation, group, bounded, literal_text, bounded_before, disjunction_before, conjunction_before, unary_before, operand_before, disjuncts, conjuncts, unary_query, operand_query, query_of}
+use Rattle.dw_jexl.specs.Tokens.{first_token, AreRead}
+use Rattle.dw_jexl.specs.Patterns.{pieces, text_of, begins_wild, ends_wild, is_right, are_right}
+use Rattle.dw_jexl.specs.Grammar.{folded, string, End, is_lower, is_upper, is_strict, between, bounded_by, joined, Disjunction, one, more, Conjunction, alone, joins, Unary, operand, comparison, matching, Operand, negation, group, bounded, disjunction_before, conjunction_before, unary_before, operand_before, disjuncts, conjuncts, unary_query, operand_query, query_of}
 use Rattle.dw_jexl.specs.Depth.{is_deep}
-use Rattle.dw_jexl.specs.Canonical.{sign_of, string_of, pattern_chars, matching_sign, lower_sign, upper_sign, comparison_text, side_text, pattern_text, bounded_text, printed_step, Shape, Leaf, Negation, Several, Printed, child_text, not_opening, not_closing, following_text, children_text, printed, canonical}
+use Rattle.dw_jexl.specs.Canonical.{sign_of, string_of, pattern_chars, matching_sign, lower_sign, upper_sign, comparison_text, side_text, pattern_text, bounded_text, printed_step, Shape, Leaf, Negation, Several, Printed, child_text, not_opening, not_closing, children_text, printed, canonical}
 use Rattle.dw_jexl.specs.Spelling.{Spells, Answers}
+use Rattle.dw_jexl.specs.Limits.{HasFew}
+use Rattle.dw_jexl.specs.WellMade.{is_upper_field, are_all, are_several, is_well_made}
 use Rattle.dw_jexl.specs.QueryLaws.{IsReadAgain, SpellsAgain}
-use Rattle.dw_jexl.proofs.Upper.{IsUpper, upper}
-use Rattle.dw_jexl.proofs.Named.{AreNamed, read_named}
+use Rattle.dw_jexl.proofs.Upper.{IsUpper, upper_parts}
 use Rattle.dw_jexl.proofs.Written.{Reads, beside, open_read, close_read, conjoin_read, disjoin_read, not_open_read, negate_read, bounded_read, compare_read, match_read, name_read, string_read}
-use Rattle.dw_jexl.proofs.Wildcards.{IsPattern, pattern_again}
+use Rattle.dw_jexl.proofs.Wildcards.{IsPattern, pattern_back}
+use Rattle.dw_jexl.proofs.Made.{cmp_made, pattern_made, bounded_made, not_made, and_made, or_made, spells_made}
 
 -- how each query is printed
 cmp_printed : (w : List ℕ) (op : Op) (l : List ℕ) → printed (query.Cmp w op l) ≡ record { shape = Leaf; text = comparison_text w op l }
@@ -236,21 +239,6 @@ between_again w op l or m u low high =
     (beside (codes " && ") (right ++ codes "))") _ (λ ts. Name w ∷ Compare or ∷ Quoted m ∷ Close ∷ Close ∷ ts) conjoin_read
     (beside right (codes "))") _ (λ ts. Close ∷ Close ∷ ts) higher (beside (codes ")") (codes ")") (λ ts. Close ∷ ts) (λ ts. Close ∷ ts) close_read close_read))))))
 
--- which two sides make a bounded
-sides : (same low high : Bool) (x y q : Query) → cond (not same) None (cond low (Some x) (cond high (Some y) None)) ≡ Some q → ((low ≡ true) × (x ≡ q)) ⊎ ((high ≡ true) × (y ≡ q))
-sides false low high x y q h = cc
-sides true true high x y q h = inl (refl, ap (λ o. unwrap_or o q) h)
-sides true false true x y q h = inr (refl, ap (λ o. unwrap_or o q) h)
-sides true false false x y q h = cc
-
-bounded_again : (f : List ℕ) (op : Op) (l g : List ℕ) (or : Op) (m : List ℕ) (q : Query) → IsUpper (folded f) → bounded_by f op l g or m ≡ Some q → Again (printed q) q
-unfolding bounded_by
-bounded_again f op l g or m q u h = from (sides (bytes_eq (folded f) (folded g)) (is_lower op && is_upper or) (is_upper op && is_lower or) (between (folded f) op l or m) (between (folded f) or m op l) q h)
-  where
-    from : (((is_lower op && is_upper or) ≡ true) × (between (folded f) op l or m ≡ q)) ⊎ (((is_upper op && is_lower or) ≡ true) × (between (folded f) or m op l ≡ q)) → Again (printed q) q
-    from (inl a) = let p = and_parts (is_lower op) (is_upper or) a.0 in subst (λ r. Again (printed r) r) a.1 (between_again (folded f) op l or m u p.0 p.1)
-    from (inr a) = let p = and_parts (is_upper op) (is_lower or) a.0 in subst (λ r. Again (printed r) r) a.1 (between_again (folded f) or m op l u p.1 p.0)
-
 -- several children, printed with a sign between any two, are read as they again
 record Conjuncts (qs : List Query) : Type 0 where
   conjunction : Conjunction
@@ -270,21 +258,17 @@ conjunct_alone q a =
       read = at_end (child_text (printed q)) (λ ts. unary_before a.child ts) a.child_read;
     }
 
-conjunct_more : (q : Query) (c : Conjunction) → Again (printed q) q → Conjuncts (conjuncts c) → Conjuncts (q ∷ conjuncts c)
-conjunct_more q c a b =
+conjunct_more : (q r : Query) (rs : List Query) → Again (printed q) q → Conjuncts (r ∷ rs) → Conjuncts (q ∷ r ∷ rs)
+conjunct_more q r rs a b =
     let sign = codes " && " in
+    let following = children_text sign (map printed (r ∷ rs)) in
     record {
       conjunction = joins a.child b.conjunction;
-      is = ap (λ r. r ∷ conjuncts b.conjunction) a.child_is ∙ ap (λ rs. q ∷ rs) b.is;
+      is = ap (λ x. x ∷ conjuncts b.conjunction) a.child_is ∙ ap (λ xs. q ∷ xs) b.is;
       read =
-          subst (λ cs. Reads (child_text (printed q) ++ cs) (λ ts. unary_before a.child (Conjoin ∷ conjunction_before b.conjunction ts))) (sym (following c))
-          (beside (child_text (printed q)) (sign ++ children_text sign (map printed (conjuncts c))) (λ ts. unary_before a.child ts) (λ ts. Conjoin ∷ conjunction_before b.conjunction ts) a.child_read
-          (beside sign (children_text sign (map printed (conjuncts c))) (λ ts. Conjoin ∷ ts) (λ ts. conjunction_before b.conjunction ts) conjoin_read b.read));
+          beside (child_text (printed q)) (sign ++ following) (λ ts. unary_before a.child ts) (λ ts. Conjoin ∷ conjunction_before b.conjunction ts) a.child_read
+          (beside sign following (λ ts. Conjoin ∷ ts) (λ ts. conjunction_before b.conjunction ts) conjoin_read b.read);
     }
-  where
-    following : (k : Conjunction) → following_text (codes " && ") (map printed (conjuncts k)) ≡ codes " && " ++ children_text (codes " && ") (map printed (conjuncts k))
-    following (alone u) = refl
-    following (joins u k) = refl
 
 disjunct_alone : (q : Query) → Again (printed q) q → Disjuncts (q ∷ [])
 disjunct_alone q a =
@@ -294,116 +278,92 @@ disjunct_alone q a =
       read = at_end (child_text (printed q)) (λ ts. unary_before a.child ts) a.child_read;
     }
 
-disjunct_more : (q : Query) (d : Disjunction) → Again (printed q) q → Disjuncts (disjuncts d) → Disjuncts (q ∷ disjuncts d)
-disjunct_more q d a b =
+disjunct_more : (q r : Query) (rs : List Query) → Again (printed q) q → Disjuncts (r ∷ rs) → Disjuncts (q ∷ r ∷ rs)
+disjunct_more q r rs a b =
     let sign = codes " || " in
+    let following = children_text sign (map printed (r ∷ rs)) in
     record {
       disjunction = more (alone a.child) b.disjunction;
-      is = ap (λ r. r ∷ disjuncts b.disjunction) a.child_is ∙ ap (λ rs. q ∷ rs) b.is;
+      is = ap (λ x. x ∷ disjuncts b.disjunction) a.child_is ∙ ap (λ xs. q ∷ xs) b.is;
       read =
-          subst (λ cs. Reads (child_text (printed q) ++ cs) (λ ts. unary_before a.child (Disjoin ∷ disjunction_before b.disjunction ts))) (sym (following d))
-          (beside (child_text (printed q)) (sign ++ children_text sign (map printed (disjuncts d))) (λ ts. unary_before a.child ts) (λ ts. Disjoin ∷ disjunction_before b.disjunction ts) a.child_read
-          (beside sign (children_text sign (map printed (disjuncts d))) (λ ts. Disjoin ∷ ts) (λ ts. disjunction_before b.disjunction ts) disjoin_read b.read));
+          beside (child_text (printed q)) (sign ++ following) (λ ts. unary_before a.child ts) (λ ts. Disjoin ∷ disjunction_before b.disjunction ts) a.child_read
+          (beside sign following (λ ts. Disjoin ∷ ts) (λ ts. disjunction_before b.disjunction ts) disjoin_read b.read);
     }
-  where
-    following : (k : Disjunction) → following_text (codes " || ") (map printed (disjuncts k)) ≡ codes " || " ++ children_text (codes " || ") (map printed (disjuncts k))
-    following (one c) = refl
-    following (more c k) = refl
 
--- more than one child
-and_again : (q : Query) (c : Conjunction) → Conjuncts (q ∷ conjuncts c) → Again (printed (joined query.And (q ∷ conjuncts c))) (joined query.And (q ∷ conjuncts c))
-and_again q c b =
-    subst (λ r. Again (printed r) r) (sym (node c))
-    (subst (λ p. Again p (query.And (q ∷ conjuncts c))) (sym (and_printed (q ∷ conjuncts c)))
-    (several_again (children_text (codes " && ") (map printed (q ∷ conjuncts c))) (query.And (q ∷ conjuncts c)) (one b.conjunction) (ap (joined query.And) b.is ∙ node c) b.read))
-  where
-    node : (k : Conjunction) → joined query.And (q ∷ conjuncts k) ≡ query.And (q ∷ conjuncts k)
-    node (alone u) = refl
-    node (joins u k) = refl
+-- a query that is read as it again where it is well made
+abbrev IsAgain : Query → Type 0
+IsAgain q = is_well_made q ≡ true → Again (printed q) q
 
-or_again : (q : Query) (d : Disjunction) → Disjuncts (q ∷ disjuncts d) → Again (printed (joined query.Or (q ∷ disjuncts d))) (joined query.Or (q ∷ disjuncts d))
-or_again q d b =
-    subst (λ r. Again (printed r) r) (sym (node d))
-    (subst (λ p. Again p (query.Or (q ∷ disjuncts d))) (sym (or_printed (q ∷ disjuncts d)))
-    (several_again (children_text (codes " || ") (map printed (q ∷ disjuncts d))) (query.Or (q ∷ disjuncts d)) b.disjunction (ap (joined query.Or) b.is ∙ node d) b.read))
-  where
-    node : (k : Disjunction) → joined query.Or (q ∷ disjuncts k) ≡ query.Or (q ∷ disjuncts k)
-    node (one c) = refl
-    node (more c k) = refl
+abbrev Child : Type 0
+Child = (q : Query) × IsAgain q
 
--- what is known of the tokens of a text that spells a query
-record Known (ts : List Token) : Type 0 where
-  named : AreNamed ts
-  right : are_right ts ≡ true
+abbrev those : List Child → List Query
+those es = map (λ e. e.0) es
 
-behind : (t : Token) (ts : List Token) → Known (t ∷ ts) → Known ts
-unfolding are_right
-behind t ts k = record { named = k.named.1; right = (and_parts (cond (is_match t) (first_is_right ts) true) (are_right ts) k.right).1 }
+conjuncts_of : (e : Child) (es : List Child) → are_all (map is_well_made (those (e ∷ es))) ≡ true → Conjuncts (those (e ∷ es))
+conjuncts_of e [] m = conjunct_alone e.0 (e.1 (and_parts (is_well_made e.0) true m).0)
+conjuncts_of e (d ∷ es) m =
+    let n = and_parts (is_well_made e.0) _ m in
+    conjunct_more e.0 d.0 (those es) (e.1 n.0) (conjuncts_of d es n.1)
 
-past : (n : ℕ) (ts : List Token) → Known ts → Known (drop n ts)
-past zero ts k = k
-past (suc n) [] k = k
-past (suc n) (t ∷ ts) k = past n ts (behind t ts k)
+disjuncts_of : (e : Child) (es : List Child) → are_all (map is_well_made (those (e ∷ es))) ≡ true → Disjuncts (those (e ∷ es))
+disjuncts_of e [] m = disjunct_alone e.0 (e.1 (and_parts (is_well_made e.0) true m).0)
+disjuncts_of e (d ∷ es) m =
+    let n = and_parts (is_well_made e.0) _ m in
+    disjunct_more e.0 d.0 (those es) (e.1 n.0) (disjuncts_of d es n.1)
 
-matched : (n : Bool) (raw : List ℕ) (ts : List Token) → Known (Match n ∷ Quoted raw ∷ ts) → is_right (pieces raw) ≡ true
-unfolding are_right
-matched n raw ts k = (and_parts (is_right (pieces raw)) (are_right (Quoted raw ∷ ts)) k.right).0
+-- at least two children, each well made
+parts_made : (qs : List Query) (b : Bool) → b ≡ true → b ≡ (are_several (map is_well_made qs) && are_all (map is_well_made qs)) → (are_several (map is_well_made qs) ≡ true) × (are_all (map is_well_made qs) ≡ true)
+parts_made qs b h e = and_parts (are_several (map is_well_made qs)) (are_all (map is_well_made qs)) (sym e ∙ h)
 
-mutual
-  disjunction_again : (d : Disjunction) (rest : List Token) → Known (disjunction_before d rest) → Again (printed (query_of d)) (query_of d) × Known rest
-  disjunction_again (one c) rest k = conjunction_again c rest k
-  disjunction_again (more c d) rest k =
-      let a = conjunction_again c (Disjoin ∷ disjunction_before d rest) k in
-      let b = disjuncts_again d rest (behind Disjoin (disjunction_before d rest) a.1) in
-      (or_again (joined query.And (conjuncts c)) d (disjunct_more (joined query.And (conjuncts c)) d a.0 b.0), b.1)
+and_again : (es : List Child) → IsAgain (query.And (those es))
+and_again [] m = let p = parts_made [] _ m (and_made []) in let no : false ≡ true = p.0 in cc
+and_again (e ∷ []) m = let p = parts_made (e.0 ∷ []) _ m (and_made (e.0 ∷ [])) in let no : false ≡ true = p.0 in cc
+and_again (e ∷ d ∷ es) m =
+    let qs = those (e ∷ d ∷ es) in
+    let p = parts_made qs _ m (and_made qs) in
+    let c = conjuncts_of e (d ∷ es) p.1 in
+    subst (λ p. Again p (query.And qs)) (sym (and_printed qs))
+    (several_again (children_text (codes " && ") (map printed qs)) (query.And qs) (one c.conjunction) (ap (joined query.And) c.is) c.read)
 
-  disjuncts_again : (d : Disjunction) (rest : List Token) → Known (disjunction_before d rest) → Disjuncts (disjuncts d) × Known rest
-  disjuncts_again (one c) rest k = let a = conjunction_again c rest k in (disjunct_alone (joined query.And (conjuncts c)) a.0, a.1)
-  disjuncts_again (more c d) rest k =
-      let a = conjunction_again c (Disjoin ∷ disjunction_before d rest) k in
-      let b = disjuncts_again d rest (behind Disjoin (disjunction_before d rest) a.1) in
-      (disjunct_more (joined query.And (conjuncts c)) d a.0 b.0, b.1)
+or_again : (es : List Child) → IsAgain (query.Or (those es))
+or_again [] m = let p = parts_made [] _ m (or_made []) in let no : false ≡ true = p.0 in cc
+or_again (e ∷ []) m = let p = parts_made (e.0 ∷ []) _ m (or_made (e.0 ∷ [])) in let no : false ≡ true = p.0 in cc
+or_again (e ∷ d ∷ es) m =
+    let qs = those (e ∷ d ∷ es) in
+    let p = parts_made qs _ m (or_made qs) in
+    let c = disjuncts_of e (d ∷ es) p.1 in
+    subst (λ p. Again p (query.Or qs)) (sym (or_printed qs))
+    (several_again (children_text (codes " || ") (map printed qs)) (query.Or qs) c.disjunction (ap (joined query.Or) c.is) c.read)
 
-  conjunction_again : (c : Conjunction) (rest : List Token) → Known (conjunction_before c rest) → Again (printed (joined query.And (conjuncts c))) (joined query.And (conjuncts c)) × Known rest
-  conjunction_again (alone u) rest k = unary_again u rest k
-  conjunction_again (joins u c) rest k =
-      let a = unary_again u (Conjoin ∷ conjunction_before c rest) k in
-      let b = conjuncts_again c rest (behind Conjoin (conjunction_before c rest) a.1) in
-      (and_again (unary_query u) c (conjunct_more (unary_query u) c a.0 b.0), b.1)
+bounded_again : (w low : List ℕ) (low_open : Bool) (high : List ℕ) (high_open : Bool) → IsUpper w → Again (printed (query.Bounded w low low_open high high_open)) (query.Bounded w low low_open high high_open)
+bounded_again w low true high true u = between_again w Gt low Lt high u refl refl
+bounded_again w low true high false u = between_again w Gt low Le high u refl refl
+bounded_again w low false high true u = between_again w Ge low Lt high u refl refl
+bounded_again w low false high false u = between_again w Ge low Le high u refl refl
 
-  conjuncts_again : (c : Conjunction) (rest : List Token) → Known (conjunction_before c rest) → Conjuncts (conjuncts c) × Known rest
-  conjuncts_again (alone u) rest k = let a = unary_again u rest k in (conjunct_alone (unary_query u) a.0, a.1)
-  conjuncts_again (joins u c) rest k =
-      let a = unary_again u (Conjoin ∷ conjunction_before c rest) k in
-      let b = conjuncts_again c rest (behind Conjoin (conjunction_before c rest) a.1) in
-      (conjunct_more (unary_query u) c a.0 b.0, b.1)
+pattern_again : (w : List ℕ) (negated lead trail : Bool) (text : List ℕ) → IsAgain (query.Pattern w negated lead trail text)
+pattern_again w negated lead trail text m =
+    let p = and_parts (is_upper_field w) (nat_lt 0 (length text)) (sym (pattern_made w negated lead trail text) ∙ m) in
+    matching_again w negated lead trail text (upper_parts w p.0) (pattern_back lead trail text (ltb-true 0 (length text) p.1))
 
-  unary_again : (u : Unary) (rest : List Token) → Known (unary_before u rest) → Again (printed (unary_query u)) (unary_query u) × Known rest
-  unary_again (operand o) rest k = operand_again o rest k
-  unary_again (comparison f ok op l) rest k =
-      (comparison_again (folded f) op (literal_text l) (upper f k.named.0 ok), past 3 (unary_before (comparison f ok op l) rest) k)
-  unary_again (matching f ok n raw) rest k =
-      let m = behind (Name f) (Match n ∷ Quoted raw ∷ rest) k in
-      (matching_again (folded f) n (begins_wild (pieces raw)) (ends_wild (pieces raw)) (text_of (pieces raw)) (upper f k.named.0 ok) (pattern_again raw (matched n raw rest m)), past 3 (unary_before (matching f ok n raw) rest) k)
+layer_again : (y : Query-F Child) → IsAgain (roll-Query (map-Query Child Query (λ e. e.0) y))
+unfolding roll-Query roll
+layer_again (layer.Cmp w op l) = λ m. comparison_again w op l (upper_parts w (sym (cmp_made w op l) ∙ m))
+layer_again (layer.Pattern w negated lead trail text) = pattern_again w negated lead trail text
+layer_again (layer.Bounded w low low_open high high_open) = λ m. bounded_again w low low_open high high_open (upper_parts w (sym (bounded_made w low low_open high high_open) ∙ m))
+layer_again (layer.Not e) = λ m. subst (λ p. Again p (query.Not e.0)) (sym (not_printed e.0)) (not_again (printed e.0) e.0 (e.1 (sym (not_made e.0) ∙ m)))
+layer_again (layer.And es) = and_again es
+layer_again (layer.Or es) = or_again es
 
-  operand_again : (o : Operand) (rest : List Token) → Known (operand_before o rest) → Again (printed (operand_query o)) (operand_query o) × Known rest
-  operand_again (negation o) rest k =
-      let a = operand_again o rest (behind Negate (operand_before o rest) k) in
-      (subst (λ p. Again p (query.Not (operand_query o))) (sym (not_printed (operand_query o))) (not_again (printed (operand_query o)) (operand_query o) a.0), a.1)
-  operand_again (group d) rest k =
-      let a = disjunction_again d (Close ∷ rest) (behind Open (disjunction_before d (Close ∷ rest)) k) in
-      (a.0, behind Close rest a.1)
-  operand_again (bounded a b fa fb q e) rest k =
-      let n = past 8 (bounded_before a b rest) k in
-      (bounded_again a.field a.op (literal_text a.literal) b.field b.op (literal_text b.literal) q (upper a.field n.named.0 fa) e, past 17 (bounded_before a b rest) k)
+query_again : (q : Query) → IsAgain q
+query_again = ind-Query IsAgain (λ x y is. subst (λ z. IsAgain (roll-Query z)) is (layer_again y))
 
--- The canonical text of each query that some text spells is read again as that query.
-pub read_again : (source : List ℕ) (q : Query) → Spells source q → IsReadAgain q
+-- The canonical text of each query that is well made and has few leaves is read as that query.
+pub made_again : (q : Query) → is_well_made q ≡ true → HasFew q → IsReadAgain q
 unfolding first_token are_right
-read_again source q s text e keeps =
-    let d = s.spelt.sentence.0 in
-    let known : Known s.tokens = record { named = read_named (past_blanks (chars source)) s.tokens [] s.spelt.limits.tokens_read; right = s.right } in
-    let again : Again (printed q) q = subst (λ r. Again (printed r) r) (sym s.spelt.sentence.2) (disjunction_again d [] (subst (λ ts. Known ts) s.spelt.sentence.1 known)).0 in
+made_again q m few text e keeps =
+    let again : Again (printed q) q = query_again q m in
     let tokens = disjunction_before again.whole [] in
     let read : AreRead (chars text) tokens [] = subst (λ cs. AreRead cs tokens []) (append-nil (canonical q) ∙ sym e) (again.whole_read.read [] [] [] (refl, refl)) in
     let short : length text ≤ 16384 = omega (arith, keeps.0) in
@@ -411,9 +371,12 @@ read_again source q s text e keeps =
     record {
       tokens = tokens;
       spelt = record { limits = record { short = short; tokens_read = read; shallow = shallow }; sentence = (again.whole, refl, sym again.whole_is) };
-      few = s.few;
+      few = few;
       right = again.whole_read.right [] refl;
     }
+
+pub read_again : (source : List ℕ) (q : Query) → Spells source q → IsReadAgain q
+read_again source q s = made_again q (spells_made source q s) s.few
 
 pub answers_again : (source : List ℕ) (r : Result Query QueryError) → Answers source r → IfOk r (λ q. IsReadAgain q)
 answers_again source (Ok q) a = read_again source q a

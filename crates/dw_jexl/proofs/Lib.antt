@@ -15,4 +15,6 @@ pub mod Upper
 pub mod Named
 pub mod Written
 pub mod Wildcards
+pub mod Known
+pub mod Made
 pub mod Again

@@ -7,8 +7,8 @@ use Rattle.std.proofs.lemmas.Bool.{and_from, or_left}
 use Rattle.dw_jexl.specs.declared.query.Op.TheVariants.{Eq, Ne, Lt, Le, Gt, Ge}
 use Rattle.dw_jexl.specs.declared.token.Token.{Token}
 use Rattle.dw_jexl.specs.declared.token.Token.TheVariants.{Open, Close, Conjoin, Disjoin, Negate, Compare, Match, Assign, Name, Number, Quoted}
-use Rattle.dw_jexl.specs.Tokens.{starts_word, in_word, starts_number, is_quote, word_token, number_len, number_token, quoted, string_token, sign_token, first_token, past_blanks, AreReadAt}
-use Rattle.dw_jexl.proofs.Upper.{first_starts, all_in_word, IsWord}
+use Rattle.dw_jexl.specs.Tokens.{starts_word, in_word, first_starts, all_in_word, starts_number, is_quote, word_token, number_len, number_token, quoted, string_token, sign_token, first_token, past_blanks, AreReadAt}
+use Rattle.dw_jexl.proofs.Upper.{IsWord}
 
 abbrev pub IsNamed : Token → Type 0
 IsNamed (Name w) = IsWord w

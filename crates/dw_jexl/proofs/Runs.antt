@@ -4,9 +4,9 @@ use Rattle.std.specs.Prelude.{slice_index}
 use Rattle.std.specs.List.{prefix_len}
 use Rattle.std.proofs.lemmas.List.{drop_more, drop_all}
 use Rattle.dw_jexl.specs.declared.token.Token.{Token}
-use Rattle.std.specs.Prelude.{◌||◌}
+use Rattle.std.specs.Prelude.{◌&&◌, ◌||◌}
 use Rattle.std.specs.Char.{is_ascii_digit}
-use Rattle.dw_jexl.specs.Tokens.{starts_word, in_word, holds_at}
+use Rattle.dw_jexl.specs.Tokens.{starts_word, in_word, all_in_word, holds_at}
 
 pub run_ends : (p : ℕ → Bool) (xs : List ℕ) (i : ℕ) → i < length xs → p (get_or xs i 0) ≡ false → prefix_len p (drop i xs) ≡ 0
 run_ends p xs i h e = ap (prefix_len p) (drop_more xs i 0 h) ∙ ap (λ b. cond b (1 + prefix_len p (drop (i + 1) xs)) 0) e
@@ -21,6 +21,12 @@ word_is_some (c ∷ cs) h e =
     let f : prefix_len in_word (c ∷ cs) ≡ 1 + prefix_len in_word cs =
     ap (λ b. cond (b || is_ascii_digit c) (1 + prefix_len in_word cs) 0) e in
     omega (arith, f)
+
+pub words_go_on : (w : List ℕ) (i : ℕ) → i < length w → all_in_word (drop i w) ≡ (in_word (get_or w i 0) && all_in_word (drop (i + 1) w))
+words_go_on w i h = ap all_in_word (drop_more w i 0 h)
+
+pub words_end : (w : List ℕ) (i : ℕ) → length w ≤ i → all_in_word (drop i w) ≡ true
+words_end w i h = ap all_in_word (drop_all i w h)
 
 tokens_cell : (p : Token → Bool) (ts : List Token) (i : ℕ) → prefix_len p (drop i ts) ≡ cond (holds_at p ts i) (1 + prefix_len p (drop (i + 1) ts)) 0
 tokens_cell p [] zero = refl

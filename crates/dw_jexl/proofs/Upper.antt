@@ -1,23 +1,18 @@
 -- Words of a text, and fields in upper case.
-use Rattle.std.proofs.Common.{◌≡◌, ℕ, ◌≤◌, Bool, true, false, cond, List, [], ◌∷◌, length, refl, ap, ◌∙◌, arith}
-use Rattle.std.specs.Prelude.{not, ◌&&◌, ◌==◌, nat_le, bytes_eq, codes}
+use Rattle.std.proofs.Common.{◌≡◌, ℕ, ◌≤◌, Bool, true, false, cond, List, [], ◌∷◌, length, refl, sym, ap, ◌∙◌, arith}
+use Rattle.std.specs.Prelude.{not, ◌==◌, nat_le, bytes_eq, codes}
 use Rattle.std.specs.Char.{to_ascii_uppercase}
 use Rattle.std.proofs.lemmas.Bool.{and_parts, and_from, and_left, and_right, or_from, not_from_false}
 use Rattle.std.proofs.lemmas.Bool.Decides.{nat_tests}
 use Rattle.std.proofs.lemmas.List.{length-map}
+use Rattle.std.proofs.lemmas.Slice.Eq.{bytes_eq-Decides}
 use Rattle.std.proofs.lemmas.Str.Ascii.{uppercase-uppercase}
 use Rattle.dw_jexl.specs.declared.token.Token.{Token}
-use Rattle.dw_jexl.specs.declared.token.Token.TheVariants.{Name}
-use Rattle.dw_jexl.specs.Tokens.{starts_word, in_word, word_token}
-use Rattle.dw_jexl.specs.Grammar.{folded, is_reserved, is_field}
-
-abbrev pub first_starts : List ℕ → Bool
-first_starts [] = false
-first_starts (c ∷ cs) = starts_word c
-
-abbrev pub all_in_word : List ℕ → Bool
-all_in_word [] = true
-all_in_word (c ∷ cs) = in_word c && all_in_word cs
+use Rattle.dw_jexl.specs.declared.query.Op.TheVariants.{Eq, Ne, Lt, Le, Gt, Ge}
+use Rattle.dw_jexl.specs.declared.token.Token.TheVariants.{Conjoin, Disjoin, Negate, Compare, Name}
+use Rattle.dw_jexl.specs.Tokens.{starts_word, in_word, first_starts, all_in_word, is_word, is_plain, is_operator, word_token}
+use Rattle.dw_jexl.specs.Grammar.{folded, is_reserved, is_field, names_field}
+use Rattle.dw_jexl.specs.WellMade.{is_upper_field}
 
 -- a letter or `_`, and letters, digits and `_`
 pub record IsWord (w : List ℕ) : Type 0 where
@@ -102,3 +97,46 @@ upper f w h =
       field = and_from _ _ (ap (λ n. nat_le n 64) (length-map f to_ascii_uppercase) ∙ p.0) (not_from_false _ (upper_reserved f w));
       same = folded_folded f;
     }
+
+-- a token that is no name but this word's
+record IsPlainName (w : List ℕ) (t : Token) : Type 0 where
+  name : is_plain t ≡ true → t ≡ Name w
+
+no_name : (w : List ℕ) (t : Token) → is_plain t ≡ false → IsPlainName w t
+no_name w t e = record { name = λ h. let no : true ≡ false = sym h ∙ e in cc }
+
+pick : (w : List ℕ) (b : Bool) (x y : Token) → IsPlainName w x → IsPlainName w y → IsPlainName w (cond b x y)
+pick w true x y h k = h
+pick w false x y h k = k
+
+-- a word that spells no operator is a name
+plain_name : (w : List ℕ) → IsPlainName w (word_token w)
+unfolding word_token
+plain_name w =
+    pick w _ Conjoin _ (no_name w Conjoin refl) (
+    pick w _ Disjoin _ (no_name w Disjoin refl) (
+    pick w _ Negate _ (no_name w Negate refl) (
+    pick w _ (Compare Eq) _ (no_name w (Compare Eq) refl) (
+    pick w _ (Compare Ne) _ (no_name w (Compare Ne) refl) (
+    pick w _ (Compare Lt) _ (no_name w (Compare Lt) refl) (
+    pick w _ (Compare Le) _ (no_name w (Compare Le) refl) (
+    pick w _ (Compare Gt) _ (no_name w (Compare Gt) refl) (
+    pick w _ (Compare Ge) (Name w) (no_name w (Compare Ge) refl) (record { name = λ h. refl })))))))))
+
+pub upper_parts : (w : List ℕ) → is_upper_field w ≡ true → IsUpper w
+unfolding is_upper_field names_field is_word is_operator
+upper_parts w h =
+    let p = and_parts _ _ h in
+    let q = and_parts _ _ p.0 in
+    let r = and_parts _ _ q.0 in
+    let v = and_parts _ _ r.0 in
+    record {
+      word = record { starts = v.0; goes_on = v.1 };
+      name = let n = plain_name w in n.name (twice (is_plain (word_token w)) r.1);
+      field = q.1;
+      same = (bytes_eq-Decides (folded w) w).0 p.1;
+    }
+  where
+    twice : (b : Bool) → not (not b) ≡ true → b ≡ true
+    twice true e = refl
+    twice false e = cc

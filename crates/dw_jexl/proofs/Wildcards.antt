@@ -1,7 +1,7 @@
 -- The canonical characters of a pattern stand for its wildcards and its text.
 use Rattle.std.proofs.Common.{◌≡◌, ℕ, ◌+◌, ◌<◌, Bool, true, false, cond, List, [], ◌∷◌, ◌++◌, length, refl, sym, ap, ◌∙◌, arith, append_assoc}
 use Rattle.std.specs.Prelude.{◌||◌, ◌==◌, nat_lt, option_to_list, Some, None}
-use Rattle.std.proofs.lemmas.Bool.{and_parts, and_from, or_parts, ne_eqb, eq-eqb, lt-ltb, ltb-true}
+use Rattle.std.proofs.lemmas.Bool.{and_from, or_parts, ne_eqb, eq-eqb, lt-ltb}
 use Rattle.dw_jexl.specs.declared.pattern.Piece.{Piece}
 use Rattle.dw_jexl.specs.declared.pattern.Piece.TheVariants.{Literal, Wild, Broken}
 use Rattle.dw_jexl.specs.declared.pattern.Pending.TheVariants.{Nothing, Escape, Dot}
@@ -95,7 +95,7 @@ pub record IsPattern (lead trail : Bool) (text : List ℕ) : Type 0 where
   pub literal : text_of (pieces (pattern_chars lead trail text)) ≡ text
   pub right : is_right (pieces (pattern_chars lead trail text)) ≡ true
 
-pattern_back : (lead trail : Bool) (text : List ℕ) → 0 < length text → IsPattern lead trail text
+pub pattern_back : (lead trail : Bool) (text : List ℕ) → 0 < length text → IsPattern lead trail text
 unfolding is_right
 pattern_back lead trail text h =
     let e = chars_read lead trail text in
@@ -114,8 +114,3 @@ pattern_back lead trail text h =
           ∙ ap (λ v. length text + bit lead + bit v == length (pieces (pattern_chars lead trail text))) t
           ∙ eq-eqb _ _ (sym n));
     }
-
-pub pattern_again : (raw : List ℕ) → is_right (pieces raw) ≡ true → IsPattern (begins_wild (pieces raw)) (ends_wild (pieces raw)) (text_of (pieces raw))
-unfolding is_right
-pattern_again raw h =
-    pattern_back _ _ _ (ltb-true 0 (length (text_of (pieces raw))) (and_parts (nat_lt 0 (length (text_of (pieces raw)))) (length (text_of (pieces raw)) + bit (begins_wild (pieces raw)) + bit (ends_wild (pieces raw)) == length (pieces raw)) h).0)

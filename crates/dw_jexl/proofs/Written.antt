@@ -9,11 +9,11 @@ use Rattle.dw_jexl.specs.declared.query.Op.{Op}
 use Rattle.dw_jexl.specs.declared.query.Op.TheVariants.{Eq, Ne, Lt, Le, Gt, Ge}
 use Rattle.dw_jexl.specs.declared.token.Token.{Token}
 use Rattle.dw_jexl.specs.declared.token.Token.TheVariants.{Open, Close, Conjoin, Disjoin, Negate, Compare, Match, Assign, Name, Quoted}
-use Rattle.dw_jexl.specs.Tokens.{is_blank, starts_word, in_word, starts_number, is_quote, word_token, piece, before, quoted, string_token, sign_token, first_token, past_blanks, AreReadAt, AreRead}
+use Rattle.dw_jexl.specs.Tokens.{is_blank, starts_word, in_word, all_in_word, starts_number, is_quote, word_token, piece, before, quoted, string_token, sign_token, first_token, past_blanks, AreReadAt, AreRead}
 use Rattle.dw_jexl.specs.Patterns.{are_right}
 use Rattle.dw_jexl.specs.Canonical.{sign_of, all_escaped, string_of}
 use Rattle.dw_jexl.proofs.First.{first_word}
-use Rattle.dw_jexl.proofs.Upper.{all_in_word, IsWord}
+use Rattle.dw_jexl.proofs.Upper.{IsWord}
 
 -- The text is read into these tokens, before what follows, and every pattern among them is right.
 pub record Reads (text : List ℕ) (tokens : List Token → List Token) : Type 0 where

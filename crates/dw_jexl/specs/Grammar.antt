@@ -10,6 +10,7 @@ use Rattle.dw_jexl.specs.declared.query.Query.TheOpen as layer
 use Rattle.dw_jexl.specs.declared.query.Query.TheFolds.{fold-Query}
 use Rattle.dw_jexl.specs.declared.token.Token.{Token}
 use Rattle.dw_jexl.specs.declared.token.Token.TheVariants.{Open, Close, Conjoin, Disjoin, Negate, Compare, Match, Assign, Name, Number, Quoted}
+use Rattle.dw_jexl.specs.Tokens.{is_word, is_operator}
 use Rattle.dw_jexl.specs.Patterns.{pieces, text_of, begins_wild, ends_wild}
 
 -- a field in upper case
@@ -23,6 +24,10 @@ is_reserved w = bytes_eq w (codes "true") || bytes_eq w (codes "false") || bytes
 -- a word of at most 64 characters that is not reserved
 unfoldable pub is_field : List ℕ → Bool
 is_field w = nat_le (length w) 64 && not (is_reserved w)
+
+-- the text of a field: a word that spells no operator, is not reserved and has at most 64 characters
+unfoldable pub names_field : List ℕ → Bool
+names_field w = is_word w && not (is_operator w) && is_field w
 
 -- a literal is a number or a string
 pub data Literal : Type 0 where

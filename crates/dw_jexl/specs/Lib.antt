@@ -4,6 +4,9 @@ pub mod Walks
 pub mod Patterns
 pub mod Grammar
 pub mod Reading
+pub mod Children
+pub mod Limits
+pub mod WellMade
 pub mod Spelling
 pub mod Canonical
 pub mod QueryLaws

@@ -1,5 +1,5 @@
 -- Which query a text spells, and the first rule that a text breaks.
-use Rattle.std.specs.Prelude.{◌≡◌, ℕ, ◌<◌, ◌≤◌, true, false, List, [], chars, length, Result, Ok, Err}
+use Rattle.std.specs.Prelude.{◌≡◌, ℕ, true, false, List, [], chars, Result, Ok, Err}
 use Rattle.dw_jexl.specs.declared.error.QueryError.{QueryError}
 use Rattle.dw_jexl.specs.declared.error.QueryError.TheVariants.{Rule, OutOfMemory}
 use Rattle.dw_jexl.specs.declared.error.QueryRule.{QueryRule}
@@ -9,7 +9,8 @@ use Rattle.dw_jexl.specs.declared.token.Token.{Token}
 use Rattle.dw_jexl.specs.Tokens.{AreRead}
 use Rattle.dw_jexl.specs.Depth.{is_deep}
 use Rattle.dw_jexl.specs.Patterns.{are_right}
-use Rattle.dw_jexl.specs.Grammar.{Disjunction, disjunction_before, query_of, leaves}
+use Rattle.dw_jexl.specs.Grammar.{Disjunction, disjunction_before, query_of}
+use Rattle.dw_jexl.specs.Limits.{IsShort, IsLong, HasFew, HasMany}
 
 -- all of the tokens are a sentence of the grammar that stands for the query
 abbrev pub IsSentence : List Token → Query → Type 0
@@ -17,7 +18,7 @@ IsSentence ts q = (d : Disjunction) × (ts ≡ disjunction_before d []) × (q �
 
 -- The text has at most 16,384 bytes, and its tokens nowhere stand more than 64 levels deep up to where none can be read.
 pub record IsShallow (text : List ℕ) (tokens : List Token) (rest : List ℕ) : Type 0 where
-  pub short : length text ≤ 16384
+  pub short : IsShort text
   pub tokens_read : AreRead (chars text) tokens rest
   pub shallow : is_deep tokens ≡ false
 
@@ -30,18 +31,18 @@ pub record IsSpeltBy (text : List ℕ) (tokens : List Token) (q : Query) : Type 
 pub record Spells (text : List ℕ) (q : Query) : Type 0 where
   pub tokens : List Token
   pub spelt : IsSpeltBy text tokens q
-  pub few : leaves q ≤ 256
+  pub few : HasFew q
   pub right : are_right tokens ≡ true
 
 -- this rule is the first that the text breaks
 abbrev pub Breaks : QueryRule → List ℕ → Type 0
-Breaks TooLong text = 16384 < length text
-Breaks TooDeep text = (length text ≤ 16384) × ((tokens : List Token) × (rest : List ℕ) × AreRead (chars text) tokens rest × (is_deep tokens ≡ true))
+Breaks TooLong text = IsLong text
+Breaks TooDeep text = IsShort text × ((tokens : List Token) × (rest : List ℕ) × AreRead (chars text) tokens rest × (is_deep tokens ≡ true))
 Breaks Syntax text =
     ((tokens : List Token) × (rest : List ℕ) × IsShallow text tokens rest)
     × ((tokens : List Token) (q : Query) → IsSpeltBy text tokens q → ⊥)
-Breaks TooMany text = (tokens : List Token) × (q : Query) × IsSpeltBy text tokens q × (256 < leaves q)
-Breaks Pattern text = (tokens : List Token) × (q : Query) × IsSpeltBy text tokens q × (leaves q ≤ 256) × (are_right tokens ≡ false)
+Breaks TooMany text = (tokens : List Token) × (q : Query) × IsSpeltBy text tokens q × HasMany q
+Breaks Pattern text = (tokens : List Token) × (q : Query) × IsSpeltBy text tokens q × HasFew q × (are_right tokens ≡ false)
 
 -- what parsing may answer
 abbrev pub Answers : List ℕ → Result Query QueryError → Type 0

@@ -18,6 +18,18 @@ starts_word c = is_ascii_alphabetic c || c == 95
 unfoldable pub in_word : ℕ → Bool
 in_word c = starts_word c || is_ascii_digit c
 
+abbrev pub first_starts : List ℕ → Bool
+first_starts [] = false
+first_starts (c ∷ cs) = starts_word c
+
+abbrev pub all_in_word : List ℕ → Bool
+all_in_word [] = true
+all_in_word (c ∷ cs) = in_word c && all_in_word cs
+
+-- a letter or `_`, and then letters, digits and `_`
+unfoldable pub is_word : List ℕ → Bool
+is_word w = first_starts w && all_in_word w
+
 -- a digit or `-`
 unfoldable pub starts_number : ℕ → Bool
 starts_number c = is_ascii_digit c || c == 45
@@ -39,6 +51,14 @@ word_token w =
     else (if bytes_eq w (codes "gt") then Compare Gt
     else (if bytes_eq w (codes "ge") then Compare Ge
     else Name w))))))))
+
+abbrev pub is_plain : Token → Bool
+is_plain (Name word) = true
+is_plain _ = false
+
+-- a word that spells an operator
+unfoldable pub is_operator : List ℕ → Bool
+is_operator w = not (is_plain (word_token w))
 
 -- how many characters the sign of a number takes
 unfoldable pub sign_len : List ℕ → ℕ

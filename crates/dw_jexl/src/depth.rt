@@ -3,8 +3,9 @@
 ghost use Rattle.std.specs.Prelude.{◌≡◌, ◌+◌, ◌≤◌, nat_lt, IfOk};
 ghost use Rattle.dw_jexl.specs.Depth.{next, is_deep};
 
+use crate::OutOfMemory;
 use crate::token::Token;
-use std::alloc::{AllocError, Global};
+use std::alloc::Global;
 
 /// The most levels that may be open at one place.
 const MAX_LEVELS: usize = 64;
@@ -28,7 +29,7 @@ impl Walk {
     ghost use Rattle.dw_jexl.specs.Walks.{place_of, Leads};
 
     #[tactic(auto, unfolding(crate::specs::Depth::next))]
-    fn step(&mut self, token: &Token) -> Result<Step, AllocError>
+    fn step(&mut self, token: &Token) -> Result<Step, OutOfMemory>
         requires { self.old.open_levels + self.old.run ≤ 64 }
         ensures { IfOk result (λ step. Leads (next (place_of self.old) token.now) step (place_of self.new)) }
     {
@@ -47,7 +48,7 @@ impl Walk {
     }
 
     #[tactic(auto, unfolding(crate::specs::Depth::next))]
-    fn open(&mut self) -> Result<Step, AllocError>
+    fn open(&mut self) -> Result<Step, OutOfMemory>
         requires { self.old.open_levels + self.old.run ≤ 64 }
         ensures { IfOk result (λ step. Leads (next (place_of self.old) Token.Open) step (place_of self.new)) }
     {
@@ -81,7 +82,7 @@ impl Walk {
 
 /// Whether more than 64 levels are open somewhere.
 #[tactic(auto, using(crate::proofs::Walking::walk_at_end))]
-pub fn is_deep(alloc: Global, tokens: &[Token]) -> Result<bool, AllocError>
+pub fn is_deep(alloc: Global, tokens: &[Token]) -> Result<bool, OutOfMemory>
     ensures { IfOk result (λ deep. deep ≡ is_deep tokens.now) }
 {
     let mut walk = Walk {

@@ -3,15 +3,17 @@
 ghost use Rattle.std.specs.Prelude.{◌≡◌, ◌+◌, ◌<◌, ◌≤◌, length, take, drop, IfOk, IfSome, OnOk, ◌++◌, bytes_eq, slice_index, not, ◌&&◌, ◌==◌, true, false};
 ghost use Rattle.std.specs.Char.{is_ascii_digit};
 ghost use Rattle.std.specs.List.{prefix_len};
-ghost use Rattle.dw_jexl.specs.Tokens.{is_blank, starts_word, in_word, starts_number, is_quote, word_token, sign_len, digits_from, fraction_end, number_len, number_token, piece, quoted, string_token, sign_token, first_token, AreRead};
+ghost use Rattle.dw_jexl.specs.Tokens.{is_blank, starts_word, in_word, first_starts, all_in_word, is_word, is_operator, starts_number, is_quote, word_token, sign_len, digits_from, fraction_end, number_len, number_token, piece, quoted, string_token, sign_token, first_token, AreRead};
 
+use crate::OutOfMemory;
 use crate::query::Op;
 use crate::token::Token;
 use sqlite_items::Items;
-use std::alloc::{AllocError, Global};
+use std::alloc::Global;
 
+/// Space, tab, CR and LF.
 #[tactic(auto, unfolding(crate::specs::Tokens::is_blank))]
-fn is_blank(c: char) -> bool
+pub fn is_blank(c: char) -> bool
     ensures { result ≡ is_blank c }
 {
     c == ' ' || c == '\t' || c == '\r' || c == '\n'
@@ -31,6 +33,35 @@ fn in_word(c: char) -> bool
     starts_word(c) || c.is_ascii_digit()
 }
 
+fn first_starts(word: &[char]) -> bool
+    ensures { result ≡ first_starts word.now }
+{
+    match word.first() {
+        Some(c) => starts_word(*c),
+        None => false,
+    }
+}
+
+#[tactic(auto, using(crate::proofs::Runs::words_go_on, crate::proofs::Runs::words_end))]
+fn all_in_word(word: &[char]) -> bool
+    ensures { result ≡ all_in_word word.now }
+{
+    for c in word {
+        if !in_word(*c) {
+            return false;
+        }
+    }
+    true
+}
+
+/// Whether a text is a letter or `_`, and then letters, digits and `_`.
+#[tactic(auto, unfolding(crate::specs::Tokens::is_word))]
+pub fn is_word(word: &[char]) -> bool
+    ensures { result ≡ is_word word.now }
+{
+    first_starts(word) && all_in_word(word)
+}
+
 #[tactic(auto, unfolding(crate::specs::Tokens::starts_number))]
 fn starts_number(c: char) -> bool
     ensures { result ≡ starts_number c }
@@ -46,14 +77,15 @@ fn is_quote(c: char) -> bool
 }
 
 /// The character at a place, or that of code 0 past the end.
-fn char_at(chars: &[char], at: usize) -> char
+pub fn char_at(chars: &[char], at: usize) -> char
     ensures { result ≡ slice_index chars.now at }
 {
     if at < chars.len() { chars[at] } else { '\0' }
 }
 
+/// How many characters of white space stand at the front.
 #[tactic(auto, using(crate::proofs::Runs::run_ends, crate::proofs::Runs::run_goes_on))]
-fn blanks(chars: &[char]) -> usize
+pub fn blanks(chars: &[char]) -> usize
     ensures value { result ≡ prefix_len is_blank chars.now }
     ensures within { result ≤ length chars.now }
 {
@@ -110,7 +142,7 @@ fn is(name: &[char], word: &[char]) -> bool
 }
 
 #[tactic(auto, unfolding(crate::specs::Tokens::word_token))]
-fn word_token(alloc: Global, name: &[char]) -> Result<Token, AllocError>
+fn word_token(alloc: Global, name: &[char]) -> Result<Token, OutOfMemory>
     ensures { IfOk result (λ t. t ≡ word_token name.now) }
 {
     if is(name, &['a', 'n', 'd']) {
@@ -134,6 +166,22 @@ fn word_token(alloc: Global, name: &[char]) -> Result<Token, AllocError>
     } else {
         Ok(Token::Name(Items::from_slice(alloc, name)?))
     }
+}
+
+/// Whether a word is another spelling of an operator.
+#[tactic(auto, unfolding(crate::specs::Tokens::is_operator, crate::specs::Tokens::word_token))]
+pub fn is_operator(word: &[char]) -> bool
+    ensures { result ≡ is_operator word.now }
+{
+    is(word, &['a', 'n', 'd'])
+        || is(word, &['o', 'r'])
+        || is(word, &['n', 'o', 't'])
+        || is(word, &['e', 'q'])
+        || is(word, &['n', 'e'])
+        || is(word, &['l', 't'])
+        || is(word, &['l', 'e'])
+        || is(word, &['g', 't'])
+        || is(word, &['g', 'e'])
 }
 
 #[tactic(auto, unfolding(crate::specs::Tokens::sign_len))]
@@ -182,7 +230,7 @@ fn number_len(chars: &[char]) -> Option<usize>
 }
 
 #[tactic(auto, unfolding(crate::specs::Tokens::number_token))]
-fn number_token(alloc: Global, chars: &[char]) -> Result<Option<(Token, usize)>, AllocError>
+fn number_token(alloc: Global, chars: &[char]) -> Result<Option<(Token, usize)>, OutOfMemory>
     ensures value { IfOk result (λ r. r ≡ number_token chars.now) }
     ensures within { IfOk result (λ r. IfSome r (λ p. (0 < p.1) × (p.1 ≤ length chars.now))) }
 {
@@ -194,7 +242,7 @@ fn number_token(alloc: Global, chars: &[char]) -> Result<Option<(Token, usize)>,
 
 /// Adds what a character adds to a string.
 #[tactic(auto, unfolding(crate::specs::Tokens::piece))]
-fn put_piece(text: &mut Items<char>, quote: char, escaped: bool, c: char) -> Result<(), AllocError>
+fn put_piece(text: &mut Items<char>, quote: char, escaped: bool, c: char) -> Result<(), OutOfMemory>
     ensures { OnOk result (text.new ≡ text.old ++ piece quote escaped c) }
 {
     if escaped {
@@ -218,11 +266,11 @@ fn is_bare(escaped: bool, c: char, mark: char) -> bool
 
 /// What a string stands for, and how many characters it takes, its closing quote with it.
 #[tactic(auto, using(crate::proofs::Strings::string_ends, crate::proofs::Strings::string_goes_on, crate::proofs::Strings::string_is_open, crate::proofs::Strings::string_begins))]
-fn quoted(
+pub fn quoted(
     alloc: Global,
     quote: char,
     chars: &[char],
-) -> Result<Option<(Items<char>, usize)>, AllocError>
+) -> Result<Option<(Items<char>, usize)>, OutOfMemory>
     ensures value { IfOk result (λ r. r ≡ quoted quote false chars.now) }
     ensures within { IfOk result (λ r. IfSome r (λ p. (0 < p.1) × (p.1 ≤ length chars.now))) }
 {
@@ -243,7 +291,7 @@ fn string_token(
     alloc: Global,
     quote: char,
     chars: &[char],
-) -> Result<Option<(Token, usize)>, AllocError>
+) -> Result<Option<(Token, usize)>, OutOfMemory>
     ensures value { IfOk result (λ r. r ≡ string_token quote chars.now) }
     ensures within { IfOk result (λ r. IfSome r (λ p. (1 < p.1) × (p.1 ≤ length chars.now + 1))) }
 {
@@ -309,7 +357,7 @@ fn sign_token(c: char, next: char) -> Option<(Token, usize)>
 
 /// The word at the front, and how many characters it takes.
 #[tactic(auto, using(crate::proofs::Runs::word_is_some))]
-fn word(alloc: Global, chars: &[char]) -> Result<(Token, usize), AllocError>
+fn word(alloc: Global, chars: &[char]) -> Result<(Token, usize), OutOfMemory>
     requires { 0 < length chars.now }
     ensures value { IfOk result (λ p. p ≡ (word_token (take (prefix_len in_word chars.now) chars.now), prefix_len in_word chars.now)) }
     ensures within { starts_word (slice_index chars.now 0) ≡ true → IfOk result (λ p. (0 < p.1) × (p.1 ≤ length chars.now)) }
@@ -320,7 +368,7 @@ fn word(alloc: Global, chars: &[char]) -> Result<(Token, usize), AllocError>
 
 /// The longest token at the front, and how many characters it takes.
 #[tactic(auto, using(crate::proofs::First::no_first, crate::proofs::First::first_word, crate::proofs::First::first_number, crate::proofs::First::first_string, crate::proofs::First::first_sign))]
-fn first_token(alloc: Global, chars: &[char]) -> Result<Option<(Token, usize)>, AllocError>
+fn first_token(alloc: Global, chars: &[char]) -> Result<Option<(Token, usize)>, OutOfMemory>
     ensures value { IfOk result (λ r. r ≡ first_token chars.now) }
     ensures within { IfOk result (λ r. IfSome r (λ p. (0 < p.1) × (p.1 ≤ length chars.now))) }
 {
@@ -350,7 +398,7 @@ fn past_blanks(chars: &[char], at: usize) -> usize
 }
 
 /// The tokens, and the place up to which they go.
-pub fn tokens(alloc: Global, chars: &[char]) -> Result<(Vec<Token>, usize), AllocError>
+pub fn tokens(alloc: Global, chars: &[char]) -> Result<(Vec<Token>, usize), OutOfMemory>
     ensures value { IfOk result (λ r. AreRead chars.now r.0.items (drop r.1 chars.now)) }
     ensures within { IfOk result (λ r. r.1 ≤ length chars.now) }
 {

@@ -1,8 +1,9 @@
 //! The query of a text.
 
-ghost use Rattle.std.specs.Prelude.{◌≡◌, IfOk, Ok, Err, ◌⊎◌};
+ghost use Rattle.std.specs.Prelude.{◌≡◌, true, IfOk, Ok, Err, ◌⊎◌};
 ghost use Rattle.dw_jexl.specs.QueryLaws.{IsReadAgain};
 ghost use Rattle.dw_jexl.specs.Spelling.{Spells, Breaks, Answers};
+ghost use Rattle.dw_jexl.specs.WellMade.{is_well_made};
 
 use crate::depth::is_deep;
 use crate::error::{QueryError, QueryRule};
@@ -12,14 +13,14 @@ use crate::{lex, pattern, reading};
 use std::alloc::Global;
 
 /// The most bytes of a text.
-const MAX_BYTES: usize = 16_384;
+pub const MAX_BYTES: usize = 16_384;
 
 /// The levels that reading goes down: the whole, and at most 64 groups in one another, which is all that a text that is
 /// not too deep has.
-const LEVELS: usize = 65;
+pub const LEVELS: usize = 65;
 
 /// The most leaves of a query.
-const MAX_LEAVES: u64 = 256;
+pub const MAX_LEAVES: u64 = 256;
 
 fn read(alloc: Global, text: &str) -> Result<Query, QueryError>
     ensures { Answers text.now result }
@@ -53,6 +54,8 @@ pub fn parse(alloc: Global, text: &str) -> Result<Query, QueryError>
     ensures only { (q : Query) → Spells text.now q → (result ≡ Ok q) ⊎ (result ≡ Err QueryError.OutOfMemory) }
     // What is read is read again from its canonical text, where that keeps the limits on length and depth.
     ensures again { IfOk result (λ q. IsReadAgain q) }
+    // Its fields stand in upper case, its patterns have text, and each And and Or has at least two children.
+    ensures well_made { IfOk result (λ q. is_well_made q ≡ true) }
     // The rule is the first that the text breaks.
     ensures refused { (r : QueryRule) → result ≡ Err (QueryError.Rule r) → Breaks r text.now }
     // A text that breaks a rule is refused by it, unless memory runs out.

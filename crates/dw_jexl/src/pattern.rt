@@ -4,9 +4,10 @@ ghost use Rattle.std.specs.Prelude.{◌≡◌, ◌<◌, ◌≤◌, ◌++◌, IfO
 ghost use Rattle.dw_jexl.specs.Tokens.{is_match, holds_at};
 ghost use Rattle.dw_jexl.specs.Patterns.{is_meta, piece_of, pending_after, piece_at_end, pieces, text_of, begins_wild, ends_wild, is_right, first_is_right, is_right_at, are_right, is_wild, literal_in};
 
+use crate::OutOfMemory;
 use crate::token::Token;
 use crate::word::Word;
-use std::alloc::{AllocError, Global};
+use std::alloc::Global;
 
 /// A part of a pattern.
 #[derive(Clone, Copy, Debug, Drop)]
@@ -99,7 +100,7 @@ fn piece_at_end(pending: Pending) -> Option<Piece>
     }
 }
 
-fn put(out: &mut Vec<Piece>, piece: Option<Piece>) -> Result<(), AllocError>
+fn put(out: &mut Vec<Piece>, piece: Option<Piece>) -> Result<(), OutOfMemory>
     ensures { OnOk result (out.new.items ≡ out.old.items ++ option_to_list piece) }
 {
     if let Some(piece) = piece {
@@ -110,7 +111,7 @@ fn put(out: &mut Vec<Piece>, piece: Option<Piece>) -> Result<(), AllocError>
 
 /// The pieces of a pattern's string.
 #[tactic(auto, using(crate::proofs::Pieces::piece_goes_on, crate::proofs::Pieces::pieces_end))]
-pub fn pieces(alloc: Global, raw: &[char]) -> Result<Vec<Piece>, AllocError>
+pub fn pieces(alloc: Global, raw: &[char]) -> Result<Vec<Piece>, OutOfMemory>
     ensures { IfOk result (λ v. v.items ≡ pieces raw.now) }
 {
     let mut out = Vec::new(alloc);
@@ -133,7 +134,7 @@ fn literal_in(piece: Piece) -> Option<char>
     }
 }
 
-fn put_char(text: &mut Word, c: Option<char>) -> Result<(), AllocError>
+fn put_char(text: &mut Word, c: Option<char>) -> Result<(), OutOfMemory>
     ensures { OnOk result (text.new ≡ text.old ++ option_to_list c) }
 {
     if let Some(c) = c {
@@ -144,7 +145,7 @@ fn put_char(text: &mut Word, c: Option<char>) -> Result<(), AllocError>
 
 /// The literal characters of a pattern.
 #[tactic(auto, using(crate::proofs::Pieces::text_goes_on, crate::proofs::Pieces::text_ends))]
-pub fn text_of(alloc: Global, pieces: &[Piece]) -> Result<Word, AllocError>
+pub fn text_of(alloc: Global, pieces: &[Piece]) -> Result<Word, OutOfMemory>
     ensures { IfOk result (λ w. w ≡ text_of pieces.now) }
 {
     let mut text = Word::new(alloc);
@@ -164,6 +165,7 @@ fn is_wild(piece: Piece) -> bool
     }
 }
 
+/// Whether the first piece is a wildcard.
 pub fn begins_wild(pieces: &[Piece]) -> bool
     ensures { result ≡ begins_wild pieces.now }
 {
@@ -173,6 +175,7 @@ pub fn begins_wild(pieces: &[Piece]) -> bool
     is_wild(pieces[0])
 }
 
+/// Whether the last piece is a wildcard.
 pub fn ends_wild(pieces: &[Piece]) -> bool
     ensures { result ≡ ends_wild pieces.now }
 {
@@ -195,7 +198,7 @@ fn count(piece: Piece) -> usize
 
 /// How many pieces are literal characters.
 #[tactic(auto, using(crate::proofs::Pieces::literals_go_on, crate::proofs::Pieces::literals_end))]
-fn literals(pieces: &[Piece]) -> usize
+pub fn literals(pieces: &[Piece]) -> usize
     ensures value { result ≡ length (text_of pieces.now) }
     ensures within { result ≤ length pieces.now }
 {
@@ -206,8 +209,9 @@ fn literals(pieces: &[Piece]) -> usize
     n
 }
 
+/// Whether each piece is a literal character but for a wildcard at either end, and a literal character is there.
 #[tactic(auto, unfolding(crate::specs::Patterns::is_right))]
-fn is_right(pieces: &[Piece]) -> bool
+pub fn is_right(pieces: &[Piece]) -> bool
     ensures { result ≡ is_right pieces.now }
 {
     let wild = usize::from(begins_wild(pieces)) + usize::from(ends_wild(pieces));
@@ -215,7 +219,7 @@ fn is_right(pieces: &[Piece]) -> bool
     n > 0 && n + wild == pieces.len()
 }
 
-fn first_is_right(alloc: Global, tokens: &[Token]) -> Result<bool, AllocError>
+fn first_is_right(alloc: Global, tokens: &[Token]) -> Result<bool, OutOfMemory>
     ensures { IfOk result (λ right. right ≡ first_is_right tokens.now) }
 {
     match tokens.first() {
@@ -231,7 +235,7 @@ fn is_match_at(tokens: &[Token], at: usize) -> bool
 }
 
 /// Whether, if a `=~` or a `!~` stands there, the string behind it is right.
-fn is_right_at(alloc: Global, tokens: &[Token], at: usize) -> Result<bool, AllocError>
+fn is_right_at(alloc: Global, tokens: &[Token], at: usize) -> Result<bool, OutOfMemory>
     requires { at < length tokens.now }
     ensures { IfOk result (λ right. right ≡ is_right_at tokens.now at) }
 {
@@ -243,7 +247,7 @@ fn is_right_at(alloc: Global, tokens: &[Token], at: usize) -> Result<bool, Alloc
 
 /// Whether every string behind a `=~` or a `!~` is right.
 #[tactic(auto, using(crate::proofs::Pieces::right_goes_on, crate::proofs::Pieces::right_at_end))]
-pub fn are_right(alloc: Global, tokens: &[Token]) -> Result<bool, AllocError>
+pub fn are_right(alloc: Global, tokens: &[Token]) -> Result<bool, OutOfMemory>
     ensures { IfOk result (λ right. right ≡ are_right tokens.now) }
 {
     for i in 0..tokens.len() {

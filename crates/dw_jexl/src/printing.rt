@@ -6,13 +6,14 @@ ghost use Rattle.dw_jexl.specs.Grammar.{folded};
 ghost use Rattle.dw_jexl.specs.Patterns.{is_meta};
 ghost use Rattle.dw_jexl.specs.QueryLaws.{SpellsAgain};
 
+use crate::OutOfMemory;
 use crate::pattern::is_meta;
 use crate::query::{Op, Query};
 use crate::reading::folded;
 use crate::word::{Word, characters};
-use std::alloc::{AllocError, Global};
+use std::alloc::Global;
 
-fn put(out: &mut Word, text: &[char]) -> Result<(), AllocError>
+fn put(out: &mut Word, text: &[char]) -> Result<(), OutOfMemory>
     ensures { OnOk result (out.new ≡ out.old ++ text.now) }
 {
     for c in text {
@@ -22,7 +23,7 @@ fn put(out: &mut Word, text: &[char]) -> Result<(), AllocError>
 }
 
 /// A field, in upper case.
-fn put_field(alloc: Global, out: &mut Word, field: &Word) -> Result<(), AllocError>
+fn put_field(alloc: Global, out: &mut Word, field: &Word) -> Result<(), OutOfMemory>
     ensures { OnOk result (out.new ≡ out.old ++ folded field.now) }
 {
     let field = characters(alloc, field.as_str())?;
@@ -43,7 +44,7 @@ fn sign_of(op: Op) -> &'static [char]
 }
 
 /// A character of a string.
-fn put_escaped(out: &mut Word, c: char) -> Result<(), AllocError>
+fn put_escaped(out: &mut Word, c: char) -> Result<(), OutOfMemory>
     ensures { OnOk result (out.new ≡ out.old ++ escaped c) }
 {
     if c == '\'' || c == '\\' {
@@ -53,7 +54,7 @@ fn put_escaped(out: &mut Word, c: char) -> Result<(), AllocError>
 }
 
 /// A string between two `'`.
-fn put_string(out: &mut Word, text: &[char]) -> Result<(), AllocError>
+fn put_string(out: &mut Word, text: &[char]) -> Result<(), OutOfMemory>
     ensures { OnOk result (out.new ≡ out.old ++ string_of text.now) }
 {
     put(out, &['\''])?;
@@ -62,7 +63,7 @@ fn put_string(out: &mut Word, text: &[char]) -> Result<(), AllocError>
 }
 
 #[tactic(auto, using(crate::proofs::Texts::escapes_go_on, crate::proofs::Texts::escapes_end))]
-fn put_all_escaped(out: &mut Word, text: &[char]) -> Result<(), AllocError>
+fn put_all_escaped(out: &mut Word, text: &[char]) -> Result<(), OutOfMemory>
     ensures { OnOk result (out.new ≡ out.old ++ all_escaped text.now) }
 {
     for c in text {
@@ -73,7 +74,7 @@ fn put_all_escaped(out: &mut Word, text: &[char]) -> Result<(), AllocError>
 
 /// A character of a pattern's text.
 #[tactic(auto, unfolding(crate::specs::Canonical::literal_of))]
-fn put_literal(out: &mut Word, c: char) -> Result<(), AllocError>
+fn put_literal(out: &mut Word, c: char) -> Result<(), OutOfMemory>
     ensures { OnOk result (out.new ≡ out.old ++ literal_of c) }
 {
     if is_meta(c) || c == '\\' {
@@ -83,7 +84,7 @@ fn put_literal(out: &mut Word, c: char) -> Result<(), AllocError>
 }
 
 #[tactic(auto, using(crate::proofs::Texts::literals_go_on, crate::proofs::Texts::literals_end))]
-fn put_all_literal(out: &mut Word, text: &[char]) -> Result<(), AllocError>
+fn put_all_literal(out: &mut Word, text: &[char]) -> Result<(), OutOfMemory>
     ensures { OnOk result (out.new ≡ out.old ++ all_literal text.now) }
 {
     for c in text {
@@ -99,7 +100,7 @@ fn wildcard_if(wild: bool) -> &'static [char]
 }
 
 /// The characters of a pattern.
-fn pattern_chars(alloc: Global, lead: bool, trail: bool, text: &Word) -> Result<Word, AllocError>
+fn pattern_chars(alloc: Global, lead: bool, trail: bool, text: &Word) -> Result<Word, OutOfMemory>
     ensures { IfOk result (λ w. w ≡ pattern_chars lead trail text.now) }
 {
     let mut out = Word::new(alloc);
@@ -109,7 +110,7 @@ fn pattern_chars(alloc: Global, lead: bool, trail: bool, text: &Word) -> Result<
     Ok(out)
 }
 
-fn put_word_string(alloc: Global, out: &mut Word, word: &Word) -> Result<(), AllocError>
+fn put_word_string(alloc: Global, out: &mut Word, word: &Word) -> Result<(), OutOfMemory>
     ensures { OnOk result (out.new ≡ out.old ++ string_of word.now) }
 {
     put_string(out, &characters(alloc, word.as_str())?)
@@ -121,7 +122,7 @@ fn put_comparison(
     field: &Word,
     op: Op,
     literal: &Word,
-) -> Result<(), AllocError>
+) -> Result<(), OutOfMemory>
     ensures { OnOk result (out.new ≡ out.old ++ comparison_text field.now op literal.now) }
 {
     put_field(alloc, out, field)?;
@@ -149,7 +150,7 @@ fn put_side(
     field: &Word,
     sign: &[char],
     text: &Word,
-) -> Result<(), AllocError>
+) -> Result<(), OutOfMemory>
     ensures { OnOk result (out.new ≡ out.old ++ side_text field.now sign.now text.now) }
 {
     put_field(alloc, out, field)?;
@@ -190,7 +191,7 @@ fn put_bounded(
     low_open: bool,
     high: &Word,
     high_open: bool,
-) -> Result<(), AllocError>
+) -> Result<(), OutOfMemory>
     ensures { OnOk result (out.new ≡ out.old ++ bounded_text field.now low.now low_open high.now high_open) }
 {
     put(out, &BOUNDED)?;
@@ -241,7 +242,7 @@ fn not_closing(child: &Query) -> &'static [char]
 }
 
 /// The sign between two children, and nothing before the first.
-fn put_sign(out: &mut Word, place: usize, sign: &[char]) -> Result<(), AllocError>
+fn put_sign(out: &mut Word, place: usize, sign: &[char]) -> Result<(), OutOfMemory>
     ensures { OnOk result (out.new ≡ out.old ++ (if place == 0 then [] else sign.now)) }
 {
     if place == 0 {
@@ -250,7 +251,7 @@ fn put_sign(out: &mut Word, place: usize, sign: &[char]) -> Result<(), AllocErro
     put(out, sign)
 }
 
-fn put_query(alloc: Global, out: &mut Word, query: &Query) -> Result<(), AllocError>
+fn put_query(alloc: Global, out: &mut Word, query: &Query) -> Result<(), OutOfMemory>
     ensures { OnOk result (out.new ≡ out.old ++ canonical query.now) }
 {
     match query {
@@ -300,7 +301,7 @@ fn put_query(alloc: Global, out: &mut Word, query: &Query) -> Result<(), AllocEr
 }
 
 /// The one text of a query: fields in upper case, signs with one space on each side, strings in `'`.
-pub fn print(alloc: Global, query: &Query) -> Result<String, AllocError>
+pub fn print(alloc: Global, query: &Query) -> Result<String, OutOfMemory>
     ensures value { IfOk result (λ text. chars (string_bytes text) ≡ canonical query.now) }
     // A query that some text spells is read again from what is printed, where that keeps the limits on length and depth.
     ensures again { IfOk result (λ text. SpellsAgain (string_bytes text) query.now) }

@@ -1,9 +1,13 @@
-ghost use Rattle.std.specs.Prelude.{◌≡◌, IfOk, min};
+ghost use Rattle.std.specs.Prelude.{◌≡◌, ◌≤◌, IfOk, min, vec_len};
+ghost use Rattle.std.specs.Option.{option_copied};
+ghost use Rattle.dw_jexl.specs.declared.query.Query.TheVariants as query;
+ghost use Rattle.dw_jexl.specs.Children.{child_of, children_of};
 ghost use Rattle.dw_jexl.specs.Grammar.{leaves};
 
+use crate::OutOfMemory;
 use crate::word::Word;
 use sqlite_items::{Boxed, Items};
-use std::alloc::{AllocError, Global};
+use std::alloc::Global;
 
 /// How a field is compared with a literal.
 #[derive(Clone, Copy, Debug, PartialEq, Eq, Drop)]
@@ -44,8 +48,85 @@ pub enum Query {
 }
 
 impl Query {
+    /// A field compared with a literal.
+    pub fn cmp(field: Word, op: Op, literal: Word) -> Query
+        ensures { result ≡ query.Cmp field op literal }
+    {
+        Query::Cmp { field, op, literal }
+    }
+
+    /// A field matched with a text, with a wildcard before it, behind it, or both.
+    pub fn pattern(field: Word, negated: bool, lead: bool, trail: bool, text: Word) -> Query
+        ensures { result ≡ query.Pattern field negated lead trail text }
+    {
+        Query::Pattern {
+            field,
+            negated,
+            lead,
+            trail,
+            text,
+        }
+    }
+
+    /// A field between two ends, of which an open one is left out.
+    pub fn bounded(field: Word, low: Word, low_open: bool, high: Word, high_open: bool) -> Query
+        ensures { result ≡ query.Bounded field low low_open high high_open }
+    {
+        Query::Bounded {
+            field,
+            low,
+            low_open,
+            high,
+            high_open,
+        }
+    }
+
+    /// The negation of a query.
+    pub fn not(alloc: Global, child: Query) -> Result<Query, OutOfMemory>
+        ensures { IfOk result (λ q. q ≡ query.Not child) }
+    {
+        Ok(Query::Not(Boxed::new(alloc, child)?))
+    }
+
+    /// At least two children, in their order.
+    pub fn and(children: Vec<Query>) -> Query
+        requires { 2 ≤ vec_len children }
+        ensures { result ≡ query.And children.items }
+    {
+        Query::And(Items::from_vec(children))
+    }
+
+    /// At least two children, in their order.
+    pub fn or(children: Vec<Query>) -> Query
+        requires { 2 ≤ vec_len children }
+        ensures { result ≡ query.Or children.items }
+    {
+        Query::Or(Items::from_vec(children))
+    }
+
+    /// The child of a Not.
+    pub fn child(&self) -> Option<&Query>
+        ensures { option_copied result ≡ child_of self.now }
+    {
+        match self {
+            Query::Not(child) => Some(child.get()),
+            _ => None,
+        }
+    }
+
+    /// The children of an And or Or, in their order; of another query none.
+    pub fn children(&self) -> &[Query]
+        ensures { result.now ≡ children_of self.now }
+    {
+        match self {
+            Query::And(children) => children.as_slice(),
+            Query::Or(children) => children.as_slice(),
+            _ => &[],
+        }
+    }
+
     /// An equal query.
-    pub fn copy(&self, alloc: Global) -> Result<Query, AllocError>
+    pub fn copy(&self, alloc: Global) -> Result<Query, OutOfMemory>
         ensures { IfOk result (λ q. q ≡ self.now) }
     {
         match self {
@@ -115,7 +196,7 @@ impl Query {
     }
 
     /// How many leaves it has, of which at most 257 are counted.
-    pub(crate) fn leaves(&self) -> u64
+    pub fn leaves(&self) -> u64
         ensures { result ≡ min (leaves self.now) 257 }
     {
         match self {

@@ -3,17 +3,17 @@
 ghost use Rattle.std.specs.Prelude.{◌≡◌, ◌≤◌, ◌<◌, length, drop, IfOk, OnOk, IsTrue, ◌||◌, bytes_eq};
 ghost use Rattle.std.specs.List.{prefix_len};
 ghost use Rattle.dw_jexl.specs.declared.query.Query.TheVariants as query;
-ghost use Rattle.dw_jexl.specs.Grammar.{folded, is_reserved, is_field, is_lower, is_upper, is_strict, between, bounded_by, pattern_of, joined};
+ghost use Rattle.dw_jexl.specs.Grammar.{folded, is_reserved, is_field, names_field, is_lower, is_upper, is_strict, between, bounded_by, pattern_of, joined};
 ghost use Rattle.dw_jexl.specs.Tokens.{is_open, is_close, is_conjoin, is_disjoin, is_negate, is_assign, is_name, holds_at};
 ghost use Rattle.dw_jexl.specs.Reading.{Gives, field_at, op_at, text_at, quoted_at, leaf, begins_bounded, frames_bounded, bounded_at, range, negated, base, unary, conjunction, query_at, whole};
 
 use crate::error::{QueryError, QueryRule};
-use crate::pattern;
 use crate::query::{Op, Query};
 use crate::token::Token;
 use crate::word::Word;
+use crate::{OutOfMemory, lex, pattern};
 use sqlite_items::{Boxed, Items};
-use std::alloc::{AllocError, Global};
+use std::alloc::Global;
 
 const SYNTAX: QueryError = QueryError::Rule(QueryRule::Syntax);
 
@@ -86,6 +86,14 @@ fn is_field(word: &[char]) -> bool
     word.len() <= 64 && !is_reserved(word)
 }
 
+/// Whether a text names a field.
+#[tactic(auto, unfolding(crate::specs::Grammar::names_field))]
+pub fn names_field(word: &[char]) -> bool
+    ensures { result ≡ names_field word.now }
+{
+    lex::is_word(word) && !lex::is_operator(word) && is_field(word)
+}
+
 #[tactic(auto, unfolding(crate::specs::Reading::field_at))]
 fn field_at(tokens: &[Token], at: usize) -> Result<&[char], QueryError>
     ensures { Gives (λ word. word.now) result (field_at tokens.now at) }
@@ -136,13 +144,13 @@ fn quoted_at(tokens: &[Token], at: usize) -> Result<&[char], QueryError>
 }
 
 /// A field in upper case.
-pub fn folded(alloc: Global, field: &[char]) -> Result<Vec<char>, AllocError>
+pub fn folded(alloc: Global, field: &[char]) -> Result<Vec<char>, OutOfMemory>
     ensures { IfOk result (λ v. v.items ≡ folded field.now) }
 {
     field.iter().map(|c| c.to_ascii_uppercase()).collect(alloc)
 }
 
-fn comparison(alloc: Global, field: &[char], op: Op, text: &[char]) -> Result<Query, AllocError>
+fn comparison(alloc: Global, field: &[char], op: Op, text: &[char]) -> Result<Query, OutOfMemory>
     ensures { IfOk result (λ q. q ≡ query.Cmp (folded field.now) op text.now) }
 {
     let field = Word::from_chars(alloc, &folded(alloc, field)?)?;
@@ -155,7 +163,7 @@ fn pattern_of(
     field: &[char],
     negated: bool,
     raw: &[char],
-) -> Result<Query, AllocError>
+) -> Result<Query, OutOfMemory>
     ensures { IfOk result (λ q. q ≡ pattern_of field.now negated raw.now) }
 {
     let field = Word::from_chars(alloc, &folded(alloc, field)?)?;
@@ -228,7 +236,7 @@ fn between(
     low: &[char],
     high_op: Op,
     high: &[char],
-) -> Result<Query, AllocError>
+) -> Result<Query, OutOfMemory>
     ensures { IfOk result (λ q. q ≡ between field.now low_op low.now high_op high.now) }
 {
     let field = Word::from_chars(alloc, field)?;
@@ -318,7 +326,7 @@ fn negations(tokens: &[Token]) -> usize
 }
 
 /// The query under so many negations.
-fn negated(alloc: Global, count: usize, query: Query) -> Result<Query, AllocError>
+fn negated(alloc: Global, count: usize, query: Query) -> Result<Query, OutOfMemory>
     ensures { IfOk result (λ q. q ≡ negated count query) }
 {
     let mut query = query;

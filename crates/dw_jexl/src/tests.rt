@@ -1,4 +1,6 @@
-use crate::{QueryError, Word, parse, print};
+ghost use Rattle.std.specs.Prelude.{◌≡◌, IfOk, vec_len};
+
+use crate::{Op, Query, QueryError, Word, names_field, parse, print};
 use std::alloc::{AllocError, Global};
 use std::process::Abort;
 use std::test::Fail;
@@ -286,5 +288,83 @@ fn parts(rt: HostRuntime) -> Result<(), Fail> {
     let wanted = "F <= '2' || G =~ '.*a\\\\.b' || !(H == '1' && I == '2')";
     let copied = parse(alloc, text)?.copy(alloc)?;
     assert_eq!(rt; print(alloc, &copied)?.as_str(), wanted);
+    Ok(())
+}
+
+fn equal(alloc: Global) -> Result<Query, AllocError> {
+    let field = Word::of(alloc, "A")?;
+    Ok(Query::cmp(field, Op::Eq, Word::of(alloc, "1")?))
+}
+
+fn starts(alloc: Global) -> Result<Query, AllocError> {
+    let field = Word::of(alloc, "B")?;
+    Ok(Query::pattern(field, false, false, true, Word::of(alloc, "x")?))
+}
+
+fn between(alloc: Global) -> Result<Query, AllocError> {
+    let field = Word::of(alloc, "C")?;
+    let low = Word::of(alloc, "1")?;
+    Ok(Query::bounded(field, low, false, Word::of(alloc, "2")?, true))
+}
+
+fn two(alloc: Global, first: Query, second: Query) -> Result<Vec<Query>, AllocError>
+    ensures { IfOk result (λ v. vec_len v ≡ 2) }
+{
+    let mut both = Vec::new(alloc);
+    both.push(first)?;
+    both.push(second)?;
+    Ok(both)
+}
+
+#[test]
+fn built_queries(rt: HostRuntime) -> Result<(), Fail> {
+    let alloc = rt.alloc();
+    let either = Query::or(two(alloc, starts(alloc)?, between(alloc)?)?);
+    assert_eq!(rt; either.leaves(), 2);
+    let wanted = "B =~ 'x.*' || ((_Bounded_ = true) && (C >= '1' && C < '2'))";
+    assert_eq!(rt; print(alloc, &either)?.as_str(), wanted);
+    Ok(())
+}
+
+#[test]
+fn built_nodes(rt: HostRuntime) -> Result<(), Fail> {
+    let alloc = rt.alloc();
+    let without = Query::not(alloc, starts(alloc)?)?;
+    assert!(rt; without.child().is_some());
+    let both = Query::and(two(alloc, equal(alloc)?, without)?);
+    assert_eq!(rt; both.children().len(), 2);
+    assert!(rt; both.child().is_none());
+    assert_eq!(rt; print(alloc, &both)?.as_str(), "A == '1' && !(B =~ 'x.*')");
+    Ok(())
+}
+
+#[test]
+fn fields(rt: HostRuntime) -> Result<(), Fail> {
+    let alloc = rt.alloc();
+    let cases = [
+        ("A", true),
+        ("_a1", true),
+        ("AND", true),
+        ("and", false),
+        ("ge", false),
+        ("true", false),
+        ("_Bounded_", false),
+        ("", false),
+        ("1a", false),
+        ("a-b", false),
+        ("\u{e9}", false),
+        (
+            "a234567890123456789012345678901234567890123456789012345678901234",
+            true,
+        ),
+        (
+            "a2345678901234567890123456789012345678901234567890123456789012345",
+            false,
+        ),
+    ];
+    for (text, wanted) in cases {
+        let characters = crate::characters(alloc, text)?;
+        assert_eq!(rt; names_field(&characters), wanted, "{text}");
+    }
     Ok(())
 }

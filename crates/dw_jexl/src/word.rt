@@ -1,9 +1,10 @@
 ghost use Rattle.std.specs.Cmp.Lexicographic.{pointwise};
 ghost use Rattle.std.specs.Cmp.Rules.{comparing};
 ghost use Rattle.std.proofs.Common.{rules};
-ghost use Rattle.std.specs.Prelude.{nat_eq, ◌≡◌, [], ◌∷◌, ◌++◌, IfOk, OnOk, chars, encode_utf8_all, string_bytes};
+ghost use Rattle.std.specs.Prelude.{nat_eq, ◌≡◌, [], ◌∷◌, ◌++◌, IfOk, OnErr, OnOk, chars, encode_utf8_all, string_bytes};
 
-use std::alloc::{AllocError, Global};
+use crate::OutOfMemory;
+use std::alloc::Global;
 use std::marker::Model;
 
 /// A text, seen as the list of its characters, each by its code point.
@@ -22,7 +23,7 @@ impl Model for Word {
 
 impl Word {
     /// A copy of the text.
-    pub fn of(alloc: Global, text: &str) -> Result<Word, AllocError>
+    pub fn of(alloc: Global, text: &str) -> Result<Word, OutOfMemory>
         ensures { IfOk result (λ w. w ≡ chars text.now) }
     {
         let inner = String::from_str(alloc, text)?;
@@ -38,7 +39,7 @@ impl Word {
     }
 
     /// An equal word.
-    pub fn copy(&self) -> Result<Word, AllocError>
+    pub fn copy(&self) -> Result<Word, OutOfMemory>
         ensures { IfOk result (λ w. w ≡ self.now) }
     {
         let inner = self.inner.clone()?;
@@ -46,7 +47,7 @@ impl Word {
     }
 
     /// The empty word, which takes no memory.
-    pub(crate) fn new(alloc: Global) -> Word
+    pub fn new(alloc: Global) -> Word
         ensures { result ≡ [] }
     {
         Word {
@@ -54,14 +55,16 @@ impl Word {
         }
     }
 
-    pub(crate) fn push(&mut self, character: char) -> Result<(), AllocError>
-        ensures { OnOk result (self.new ≡ self.old ++ character ∷ []) }
+    /// Adds a character at the end.
+    pub fn push(&mut self, character: char) -> Result<(), OutOfMemory>
+        ensures ok { OnOk result (self.new ≡ self.old ++ character ∷ []) }
+        ensures err { OnErr result (self.new ≡ self.old) }
     {
         self.inner.push(character)
     }
 
     /// The text itself.
-    pub(crate) fn into_text(self) -> String
+    pub fn into_text(self) -> String
         ensures { chars (string_bytes result) ≡ self }
     {
         let Word { inner } = self;
@@ -69,7 +72,7 @@ impl Word {
     }
 
     /// The word of these characters.
-    pub(crate) fn from_chars(alloc: Global, characters: &[char]) -> Result<Word, AllocError>
+    pub fn from_chars(alloc: Global, characters: &[char]) -> Result<Word, OutOfMemory>
         ensures { IfOk result (λ w. w ≡ characters.now) }
     {
         let mut word = Word::new(alloc);
@@ -95,7 +98,7 @@ impl Eq for Word {
 }
 
 /// The characters of a text.
-pub(crate) fn characters(alloc: Global, text: &str) -> Result<Vec<char>, AllocError>
+pub fn characters(alloc: Global, text: &str) -> Result<Vec<char>, OutOfMemory>
     ensures { IfOk result (λ v. v.items ≡ chars text.now) }
 {
     text.chars().collect(alloc)

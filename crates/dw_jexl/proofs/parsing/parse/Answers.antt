@@ -1,5 +1,6 @@
 use Rattle.dw_jexl.proofs.Verdict.{answers_only, answers_refuses}
 use Rattle.dw_jexl.proofs.Again.{answers_again}
+use Rattle.dw_jexl.proofs.Made.{answers_made}
 use Rattle.dw_jexl.proofs.parsing.parse.Goals as goal
 
 pub returns-clause-only : goal.returns-clause-only
@@ -10,3 +11,6 @@ returns-clause-refuses c = λ r b. answers_refuses c.args.text.now c.read.result
 
 pub returns-clause-again : goal.returns-clause-again
 returns-clause-again c = answers_again c.args.text.now c.read.result c.read.ensures
+
+pub returns-clause-well_made : goal.returns-clause-well_made
+returns-clause-well_made c = answers_made c.args.text.now c.read.result c.read.ensures

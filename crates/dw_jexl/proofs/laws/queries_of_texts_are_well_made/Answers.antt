@@ -1,0 +1,5 @@
+use Rattle.dw_jexl.proofs.Made.{spells_made}
+use Rattle.dw_jexl.proofs.laws.queries_of_texts_are_well_made.Goals as goal
+
+pub returns : goal.returns
+returns c = spells_made

@@ -1,0 +1,15 @@
+pub mod Runs
+pub mod Terms
+pub mod First
+pub mod Cutting
+pub mod Rights
+pub mod Steps
+pub mod Sound
+pub mod Complete
+pub mod Nesting
+pub mod Verdict
+pub mod Texts
+pub mod Written
+pub mod Wildcards
+pub mod Again
+pub mod Made
