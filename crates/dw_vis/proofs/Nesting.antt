@@ -1,6 +1,6 @@
 -- How deep the walk over a sentence of the grammar goes.
-use Rattle.std.proofs.Common.{◌≡◌, ℕ, zero, suc, ◌+◌, ◌-◌, ◌<◌, ◌≤◌, Bool, true, false, cond, List, [], ◌∷◌, ◌++◌, nat_lt, nat_eq, max, refl, sym, ap, ◌∙◌, zero-add, arith, ◌⊎◌, inl, inr}
-use Rattle.std.specs.Prelude.{◌||◌, ◌&&◌}
+use Rattle.std.proofs.Common.{◌≡◌, ℕ, ◌+◌, ◌-◌, ◌<◌, ◌≤◌, Bool, true, false, cond, List, [], ◌∷◌, ◌++◌, nat_lt, nat_eq, max, refl, sym, ap, ◌∙◌, zero-add, arith, ◌⊎◌, inl, inr}
+use Rattle.std.specs.Prelude.{◌||◌}
 use Rattle.std.specs.List.{list_all}
 use Rattle.std.proofs.lemmas.Bool.{lt-ltb, le-ltb, and_parts, cases_lt}
 use Rattle.dw_vis.proofs.Places.{bare_not}
@@ -11,7 +11,7 @@ use Rattle.dw_vis.specs.declared.reading.Sign.{Sign}
 use Rattle.dw_vis.specs.declared.reading.Sign.TheVariants.{All, Any}
 use Rattle.dw_vis.specs.Depth.{next_outside, next_inside, is_deep_from}
 use Rattle.dw_vis.specs.Grammar.{is_bare, needs_escape, escaped_before, Spelt, bare, quoted, spelt_before, sign_byte}
-use Rattle.dw_vis.specs.Mixing.{Mix, mix_alone, mix_joined, MixOne, mix_term, mix_group, MixSentence, mix_nothing, mix_an, mix_before, mix_one_before}
+use Rattle.dw_vis.specs.Mixing.{Mix, mix_alone, mix_joined, MixOne, mix_term, mix_group, mix_nothing, mix_an, mix_before, mix_one_before}
 use Rattle.dw_vis.specs.Laws.{mix_nesting, one_nesting, DepthIsNesting}
 
 or_parts : (a b : Bool) → (a || b) ≡ false → (a ≡ false) × (b ≡ false)

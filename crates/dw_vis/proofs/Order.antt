@@ -8,7 +8,7 @@ use Rattle.std.proofs.lemmas.Map.Lookups.{exact_bytes}
 use Rattle.std.proofs.lemmas.Slice.Eq.{bytes_eq-Decides}
 use Rattle.dw_base.proofs.Members.{members_with}
 use Rattle.dw_base.proofs.Memberships.{named}
-use Rattle.dw_vis.specs.Names.{name_cmp, has, with_name, common_names}
+use Rattle.dw_vis.specs.Names.{has, with_name, common_names}
 
 -- what is among the names with one more
 pub with_members : (name : List ℕ) (names : List (List ℕ)) (other : List ℕ) → (has (with_name name names) other ≡ true) ↔ ((has names other ≡ true) ⊎ (other ≡ name))
