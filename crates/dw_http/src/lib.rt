@@ -20,3 +20,6 @@ pub use service::{Caller, HttpAsk, Service};
 pub use std::alloc::AllocError as OutOfMemory;
 pub use talk::{Ended, converse};
 pub use why::HttpWhy;
+
+#[cfg(test)]
+mod tests;
