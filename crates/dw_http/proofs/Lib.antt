@@ -1,0 +1,11 @@
+pub mod Heads
+pub mod Found
+pub mod Digits
+pub mod Counted
+pub mod More
+pub mod Taken
+pub mod Soon
+pub mod Over
+pub mod Ends
+pub mod Turned
+pub mod Asking

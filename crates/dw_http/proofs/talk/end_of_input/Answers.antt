@@ -1,0 +1,23 @@
+use Rattle.std.proofs.Common.{◌≡◌, true, false, length, ◌<◌, ◌==◌, sym, ap, ◌∙◌, arith}
+use Rattle.std.specs.Prelude.{Some, None}
+use Rattle.dw_http.specs.Messages.{bad}
+use Rattle.dw_http.specs.Lines.{is_large}
+use Rattle.dw_http.specs.declared.intake.Stop.TheVariants.{Ended, TooMuch, ReadFault}
+use Rattle.dw_http.specs.declared.why.HttpWhy.TheVariants.{Cut, Large, Head}
+use Rattle.dw_http.proofs.Over.{refused, concludes_at_end, concludes_so_far, failed, spent, done_at_end, refused_ends, never_ends, wanted_still, wanted_next, wrote_less, done_next}
+use Rattle.dw_http.proofs.Ends.{ends_by, ends_somehow, open_head, large_more, cut_in_body, open_body, nonempty}
+use Rattle.dw_http.proofs.talk.end_of_input.Goals as goal
+
+pub returns-then-too_large : goal.returns-then-too_large
+returns-then-too_large g c =
+    let large : is_large c.args.intake.now.bytes ≡ true = cc in
+    let some : (length c.args.intake.now.bytes == 0) ≡ false = cc in
+    let ends = ends_by c.args.intake.now.bytes true (nonempty c.args.intake.now.bytes some) c.requires.none large in
+    λ before start asks s. refused g.H.Service.answers g.H.Service.stays before start asks c.args.intake.now (g.L.Link.meaning c.args.link.now) c.args.service.now Large c.refuse.result (g.L.Link.meaning c.refuse.new.link) s (concludes_at_end g.H.Service.answers g.H.Service.stays before start asks c.args.intake.now (g.L.Link.meaning c.args.link.now) c.args.service.now (bad Large) s c.requires.ended ends) c.refuse.ensures.refuses
+
+pub returns : goal.returns
+returns g c =
+    let large : is_large c.args.intake.now.bytes ≡ false = cc in
+    let some : (length c.args.intake.now.bytes == 0) ≡ false = cc in
+    let ends = ends_by c.args.intake.now.bytes false (nonempty c.args.intake.now.bytes some) c.requires.none large in
+    λ before start asks s. refused g.H.Service.answers g.H.Service.stays before start asks c.args.intake.now (g.L.Link.meaning c.args.link.now) c.args.service.now Cut c.refuse-2.result (g.L.Link.meaning c.refuse-2.new.link) s (concludes_at_end g.H.Service.answers g.H.Service.stays before start asks c.args.intake.now (g.L.Link.meaning c.args.link.now) c.args.service.now (bad Cut) s c.requires.ended ends) c.refuse-2.ensures.refuses

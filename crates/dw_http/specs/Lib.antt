@@ -1,0 +1,12 @@
+pub mod Heads
+pub mod Lines
+pub mod Fields
+pub mod Lengths
+pub mod Messages
+pub mod Found
+pub mod Asks
+pub mod Texts
+pub mod Looks
+pub mod Held
+pub mod Talks
+pub mod Turns
