@@ -1,10 +1,11 @@
 -- The texts and numbers that reading gives keep their rules.
-use Rattle.std.proofs.Common.{◌≡◌, ℕ, suc, ◌+◌, ◌≤◌, true, false, not, ◌&&◌, nat_le, if◌then◌else◌, List, [], ◌∷◌, length, refl, arith, ap, subst, ◌∙◌, Option, Some, None, IfSome, is_some, option_and_then, option_map, codes}
+use Rattle.std.proofs.Common.{◌≡◌, ℕ, suc, ◌+◌, ◌≤◌, true, false, not, ◌&&◌, nat_le, if◌then◌else◌, List, [], ◌∷◌, length, refl, arith, ap, sym, subst, length-append, ◌++◌, ◌∙◌, Option, Some, None, IfSome, is_some, option_and_then, option_map, codes}
 use Rattle.std.specs.List.{list_all, list_any}
 use Rattle.std.specs.Ordering.{nat_cmp, is_le}
 use Rattle.std.specs.Cmp.Lexicographic.{slice_cmp}
 use Rattle.std.specs.Char.{is_ascii_digit, is_ascii_lowercase, to_ascii_uppercase}
-use Rattle.std.specs.Str.{str_to_ascii_uppercase}
+use Rattle.std.specs.Str.{bytes_eq, str_to_ascii_uppercase}
+use Rattle.std.proofs.lemmas.Slice.Eq.{bytes_eq-Decides}
 use Rattle.std.proofs.lemmas.Bool.{and_parts, and_from, or_from, le-leb, leb-true}
 use Rattle.std.proofs.lemmas.Cmp.{nat_list_cmp_total}
 use Rattle.serde_json.specs.Data.{Data, Items, no_items, item}
@@ -13,7 +14,7 @@ use Rattle.dw_base.specs.Days.{names_day, is_dashed, without_dashes, day_digits}
 use Rattle.dw_base.specs.FieldNames.{is_word_byte, begins_with_digit, is_field_name, is_folded_name}
 use Rattle.dw_base.proofs.Search.{ascending_none, ascending_with}
 use Rattle.dw_vis.specs.Names.{name_cmp, with_name, IsAscending}
-use Rattle.dw_wire.specs.ReadLine.{text_at, array_at, natural_at, number_at, is_caller, caller_of, field_at, is_query_field, is_plain, field_part, literal_part, is_written, query_of_parts, query_of, query_at, days_of, days_at, size_of, is_auth, with_auths, items_count, auths_of, asked_of}
+use Rattle.dw_wire.specs.ReadLine.{guarded, text_at, array_at, natural_at, number_at, is_caller, caller_of, field_at, is_query_field, is_plain, field_part, literal_part, written_query, query_of_parts, query_of, query_at, days_of, days_at, size_of, is_auth, with_auths, items_count, auths_of, asked_of}
 use Rattle.dw_wire.specs.WellFormed.{IsAuthSet, is_query, are_days, is_counted_to}
 use Rattle.dw_wire.proofs.KeptSteps.{Gives, nothing, just, guarded_known, guarded_some, then_known, map_known, cond_known, any_known, all_put, put_few}
 
@@ -76,14 +77,31 @@ size_known d = cond_known (is_some (get (codes "size") d)) (number_at (codes "si
 
 -- ---- queries
 
-pub query_known : (d : Data) → Gives (query_at d) (λ query. is_query query ≡ true)
-query_known d = then_known (text_at (codes "query") d) query_of (any_known (text_at (codes "query") d)) (λ text _. guarded_known (nat_le (length text) 16384 && is_written text) (query_of_parts (field_part text) (literal_part text)) (λ _. of_parts (field_part text) (literal_part text)))
+-- a query is written as long with its field folded
+as_long : (field literal : List ℕ) → length (written_query (str_to_ascii_uppercase field) literal) ≡ length (written_query field literal)
+as_long field literal =
+    let up : List ℕ = str_to_ascii_uppercase field in
+    let opened : length (up ++ codes " == '") ≡ length (field ++ codes " == '") = same_long up field (codes " == '") (length_upper field) in
+    same_long (up ++ codes " == '" ++ literal) (field ++ codes " == '" ++ literal) (codes "'") (same_long (up ++ codes " == '") (field ++ codes " == '") literal opened)
   where
-    of_parts : (field literal : List ℕ) → Gives (query_of_parts field literal) (λ query. is_query query ≡ true)
-    of_parts field literal = guarded_some (is_query_field field && is_plain literal) (record { field = str_to_ascii_uppercase field; literal = literal }) (λ h.
+    same_long : (xs ys rest : List ℕ) → length xs ≡ length ys → length (xs ++ rest) ≡ length (ys ++ rest)
+    same_long xs ys rest e = rw (length-append xs rest, length-append ys rest, e) refl
+
+pub query_known : (d : Data) → Gives (query_at d) (λ query. is_query query ≡ true)
+query_known d = then_known (text_at (codes "query") d) query_of (any_known (text_at (codes "query") d)) (λ text _. of_text text (field_part text) (literal_part text))
+  where
+    of_text : (text field literal : List ℕ)
+        → Gives (guarded (nat_le (length text) 16384 && bytes_eq text (written_query field literal)) (query_of_parts field literal)) (λ query. is_query query ≡ true)
+    of_text text field literal = guarded_known (nat_le (length text) 16384 && bytes_eq text (written_query field literal)) (query_of_parts field literal) (λ w.
+        let up : List ℕ = str_to_ascii_uppercase field in
+        let p = and_parts (nat_le (length text) 16384) (bytes_eq text (written_query field literal)) w in
+        let same : text ≡ written_query field literal = (bytes_eq-Decides text (written_query field literal)).0 p.1 in
+        let long : nat_le (length (written_query up literal)) 16384 ≡ true = ap (λ n. nat_le n 16384) (as_long field literal ∙ sym (ap length same)) ∙ p.0 in
+        guarded_some (is_query_field field && is_plain literal) (record { field = up; literal = literal }) (λ h.
         let a = and_parts (is_query_field field) (is_plain literal) h in
         let b = and_parts (is_field_name field) _ a.0 in
-        and_from (is_folded_name (str_to_ascii_uppercase field)) (is_plain literal) (folded field b.0) a.1)
+        and_from (is_folded_name up && is_plain literal) (nat_le (length (written_query up literal)) 16384)
+        (and_from (is_folded_name up) (is_plain literal) (folded field b.0) a.1) long))
 
 -- ---- days
 

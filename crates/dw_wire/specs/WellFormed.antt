@@ -13,7 +13,7 @@ use Rattle.dw_vis.specs.Names.{IsAscending}
 use Rattle.dw_wire.specs.declared.request.Query.{Query}
 use Rattle.dw_wire.specs.declared.request.Request.{Request}
 use Rattle.dw_wire.specs.declared.request.Request.TheVariants.{Define, Grant, Ingest, Create, Page, Close}
-use Rattle.dw_wire.specs.ReadLine.{is_auth, is_caller, is_plain}
+use Rattle.dw_wire.specs.ReadLine.{is_auth, is_caller, is_plain, written_query}
 
 -- at most 256 names of authorisations, each by its rule
 abbrev pub are_auths : List (List ℕ) → Bool
@@ -24,9 +24,9 @@ pub record IsAuthSet (names : List (List ℕ)) : Type 0 where
   pub rules : IsTrue (are_auths names)
   pub ordered : IsAscending names
 
--- a folded field, and a literal that stands between quotes as it is
+-- a folded field, and a literal that stands between quotes as it is, at most 16,384 bytes as they are written
 abbrev pub is_query : Query → Bool
-is_query query = is_folded_name query.field && is_plain query.literal
+is_query query = is_folded_name query.field && is_plain query.literal && nat_le (length (written_query query.field query.literal)) 16384
 
 -- two days, the first not after the last
 abbrev pub are_days : Days → Bool
