@@ -6,3 +6,7 @@ pub mod ReadingNames
 pub mod ReadingNumbers
 pub mod ReadingQueries
 pub mod ReadingRecords
+pub mod KeptSteps
+pub mod KeptTexts
+pub mod KeptRecords
+pub mod KeptRequests

@@ -9,11 +9,10 @@ use Rattle.serde_json.specs.Data.{Data, Items, no_items, item, Members, no_membe
 use Rattle.serde_json.specs.View.{view, items_view, members_view}
 use Rattle.serde_json.specs.declared.value.Value.{Value}
 use Rattle.dw_event.specs.Cells.{cell_cmp, with_cell}
-use Rattle.dw_event.specs.Names.{is_raw_value}
 use Rattle.dw_event.specs.declared.cells.EventCell.{EventCell}
 use Rattle.dw_wire.specs.declared.reading.gathered.Gathered.{Gathered}
 use Rattle.dw_base.specs.FieldNames.{is_field_name}
-use Rattle.dw_wire.specs.ReadLine.{guarded, cell_of, few, with_value, item_parts, with_item, with_items, with_values, has_items, with_fields, has_members}
+use Rattle.dw_wire.specs.ReadLine.{guarded, is_value, cell_of, few, with_value, item_parts, with_item, with_items, with_values, has_items, with_fields, has_members}
 
 -- at least as many cells come out as went in
 abbrev Grows : Gathered → Option Gathered → Type 0
@@ -47,9 +46,9 @@ then_grows g None f h k = tt
 then_grows g (Some m) f h k = after g m (f m) h (k m)
 
 parts_grow : (name : List ℕ) (g : Gathered) (parts : Option (List ℕ × Option (List ℕ)))
-    → Grows g (option_and_then (λ p. guarded (is_raw_value p.0) (Some (with_value name p.0 p.1 g))) parts)
+    → Grows g (option_and_then (λ p. guarded (is_value p.0) (Some (with_value name p.0 p.1 g))) parts)
 parts_grow name g None = tt
-parts_grow name g (Some p) = guarded_grows (is_raw_value p.0) g (Some (with_value name p.0 p.1 g)) (value_grows name p.0 p.1 g)
+parts_grow name g (Some p) = guarded_grows (is_value p.0) g (Some (with_value name p.0 p.1 g)) (value_grows name p.0 p.1 g)
 
 item_grows : (name : List ℕ) (default : Option (List ℕ)) (g : Gathered) (d : Data) → Grows g (with_item name default g d)
 item_grows name default g d = parts_grow name g (item_parts default d)

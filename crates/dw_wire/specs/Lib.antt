@@ -1,3 +1,4 @@
 pub mod ReadLine
 pub mod ReplyText
 pub mod ReplyTokens
+pub mod WellFormed

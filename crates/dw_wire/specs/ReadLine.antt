@@ -1,5 +1,5 @@
 -- What request a line is.
-use Rattle.std.specs.Prelude.{ℕ, ◌+◌, ◌-◌, ◌*◌, ok_or, ◌^◌, ◌==◌, ◌&&◌, ◌||◌, Bool, true, false, not, nat_le, List, [], ◌∷◌, ◌++◌, length, take, drop, Option, Some, None, Result, Ok, Err, option_map, option_and_then, is_some, codes, if◌then◌else◌}
+use Rattle.std.specs.Prelude.{ℕ, ◌+◌, ◌-◌, ok_or, ◌^◌, ◌==◌, ◌&&◌, Bool, true, false, not, nat_le, List, [], ◌∷◌, ◌++◌, length, take, drop, Option, Some, None, Result, Ok, Err, option_map, option_and_then, is_some, codes, if◌then◌else◌}
 use Rattle.std.specs.List.{list_any, list_all, before_first}
 use Rattle.std.specs.Str.{is_utf8, bytes_eq, str_to_ascii_uppercase}
 use Rattle.serde_json.specs.Data.{Data, Items, no_items, item, Members, no_members, member}
@@ -89,6 +89,10 @@ is_caller caller = nat_le 1 (length caller) && nat_le (length caller) 128 && lis
 
 -- ---- a record
 
+-- a text that is a raw value: UTF-8 of 1 to 4,096 bytes, none of them 0
+abbrev pub is_value : List ℕ → Bool
+is_value raw = is_utf8 raw && is_raw_value raw
+
 -- the visibility that a text is, or None where it is refused or holds a byte 0
 abbrev pub vis_of : List ℕ → Option (List ℕ)
 vis_of text = guarded (is_visibility text) (Some text)
@@ -125,7 +129,7 @@ item_parts default (Data.object ms) = object_parts default (Data.object ms)
 
 -- with an item of a field more
 abbrev pub with_item : List ℕ → Option (List ℕ) → Gathered → Data → Option Gathered
-with_item name default g d = option_and_then (λ p. guarded (is_raw_value p.0) (Some (with_value name p.0 p.1 g))) (item_parts default d)
+with_item name default g d = option_and_then (λ p. guarded (is_value p.0) (Some (with_value name p.0 p.1 g))) (item_parts default d)
 
 -- with the items of a list more
 abbrev pub with_items : List ℕ → Option (List ℕ) → Gathered → Items → Option Gathered

@@ -1,6 +1,7 @@
 ghost use Rattle.std.specs.Prelude.{◌≡◌, IfOk, option_map};
 ghost use Rattle.serde_json.specs.View.{view};
 ghost use Rattle.dw_wire.specs.ReadLine.{json_of, read_line as request_on};
+ghost use Rattle.dw_wire.specs.WellFormed.{IsWellFormed};
 
 mod auths;
 mod cells;
@@ -36,9 +37,8 @@ fn parse(alloc: Global, line: &[u8]) -> Result<Option<Value>, OutOfMemory>
     }
 }
 
-/// The request that a line is, or why it is none. A line of more than 4,194,304 bytes is not read.
 #[tactic(auto, unfolding(crate::specs::ReadLine::read_line))]
-pub fn read_line(alloc: Global, line: &[u8]) -> Result<Result<Request, Why>, OutOfMemory>
+fn read(alloc: Global, line: &[u8]) -> Result<Result<Request, Why>, OutOfMemory>
     ensures { IfOk result (λ r. r ≡ request_on line.now) }
 {
     if line.len() > MAX_LINE {
@@ -52,4 +52,13 @@ pub fn read_line(alloc: Global, line: &[u8]) -> Result<Result<Request, Why>, Out
         Some(request) => Ok(Ok(request)),
         None => Ok(Err(Why::Unbuilt)),
     }
+}
+
+/// The request that a line is, which is well formed, or why it is none. A line of more than 4,194,304 bytes
+/// is not read.
+pub fn read_line(alloc: Global, line: &[u8]) -> Result<Result<Request, Why>, OutOfMemory>
+    ensures is { IfOk result (λ r. r ≡ request_on line.now) }
+    ensures well_formed { IfOk result (λ r. IfOk r IsWellFormed) }
+{
+    read(alloc, line)
 }

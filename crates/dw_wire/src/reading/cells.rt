@@ -1,7 +1,6 @@
 ghost use Rattle.std.specs.Prelude.{◌≡◌, Some, IfOk, option_and_then};
 ghost use Rattle.serde_json.specs.View.{view, items_view, members_view};
-ghost use Rattle.dw_event.specs.Names.{is_raw_value};
-ghost use Rattle.dw_wire.specs.ReadLine.{guarded, has_items, cell_of, few, with_value, object_parts, with_item, with_items, with_values, with_fields, none_gathered, has_members, folded_names, all_differ, gathered_of};
+ghost use Rattle.dw_wire.specs.ReadLine.{guarded, is_value, has_items, cell_of, few, with_value, object_parts, with_item, with_items, with_values, with_fields, none_gathered, has_members, folded_names, all_differ, gathered_of};
 
 use crate::OutOfMemory;
 use crate::reading::gathered::Gathered;
@@ -61,7 +60,7 @@ fn put_value(
     vis: Option<Vis>,
     gathered: Gathered,
 ) -> Result<Option<Gathered>, OutOfMemory>
-    ensures { IfOk result (λ o. o ≡ few (guarded (is_raw_value raw.now) (Some (with_value name.now raw.now vis gathered)))) }
+    ensures { IfOk result (λ o. o ≡ few (guarded (is_value raw.now) (Some (with_value name.now raw.now vis gathered)))) }
 {
     if !names_value(raw) {
         return Ok(None);
@@ -77,7 +76,7 @@ fn put_object(
     gathered: Gathered,
     value: &Value,
 ) -> Result<Option<Gathered>, OutOfMemory>
-    ensures { IfOk result (λ o. o ≡ few (option_and_then (λ p. guarded (is_raw_value p.0) (Some (with_value name.now p.0 p.1 gathered))) (object_parts default.now (view value.now)))) }
+    ensures { IfOk result (λ o. o ≡ few (option_and_then (λ p. guarded (is_value p.0) (Some (with_value name.now p.0 p.1 gathered))) (object_parts default.now (view value.now)))) }
 {
     if !is_object_of(&["value", "vis"], value) {
         return Ok(None);

@@ -2,7 +2,7 @@ ghost use Rattle.std.specs.Prelude.{◌≡◌, map};
 ghost use Rattle.std.specs.List.{list_all, list_any};
 ghost use Rattle.std.specs.Str.{bytes_eq};
 ghost use Rattle.dw_event.specs.Names.{is_raw_value, lacks_zero};
-ghost use Rattle.dw_wire.specs.ReadLine.{is_visible, is_caller, is_auth};
+ghost use Rattle.dw_wire.specs.ReadLine.{is_value, is_visible, is_caller, is_auth};
 
 use dw_base::{MAX_VALUE, MAX_VISIBILITY};
 
@@ -25,12 +25,18 @@ pub fn has_no_zero(bytes: &[u8]) -> bool
     bytes.iter().all(|b| *b != 0)
 }
 
-/// Whether a text is a raw value: 1 to 4,096 bytes, none of them 0.
-pub fn names_value(raw: &str) -> bool
+fn keeps_value_rule(raw: &str) -> bool
     ensures { result ≡ is_raw_value raw.now }
 {
     let bytes = raw.as_bytes();
     !bytes.is_empty() && bytes.len() <= MAX_VALUE && has_no_zero(bytes)
+}
+
+/// Whether a text is a raw value: UTF-8, as a text is, of 1 to 4,096 bytes, none of them 0.
+pub fn names_value(raw: &str) -> bool
+    ensures { result ≡ is_value raw.now }
+{
+    keeps_value_rule(raw)
 }
 
 /// Whether a text names an authorisation: 1 to 512 bytes, none of them 0.
