@@ -1,0 +1,4 @@
+pub mod Befores
+pub mod Texts
+pub mod Searches
+pub mod Lawful
