@@ -2,3 +2,4 @@ pub mod Befores
 pub mod Texts
 pub mod Searches
 pub mod Lawful
+pub mod Forms

@@ -1,15 +1,30 @@
 -- What holds of all bound queries.
-use Rattle.std.specs.Prelude.{◌≡◌, ◌↔◌, ℕ, Bool, true, List, map}
-use Rattle.std.specs.List.{list_all}
+use Rattle.std.specs.Prelude.{◌≡◌, ◌↔◌, ℕ, Bool, true, false, ◌&&◌, List, map, Option, Some, None}
+use Rattle.std.specs.List.{list_all, list_any}
 use Rattle.std.specs.Str.Iter.{HasSubslice}
+use Rattle.dw_norm.specs.Normal.{norm}
+use Rattle.dw_dict.specs.Dictionary.{Dictionary, rule_of}
+use Rattle.dw_event.specs.Texts.{is_same}
+use Rattle.dw_event.specs.declared.views.Pair.{Pair}
 use Rattle.dw_eval.specs.declared.nview.Formed.{Formed}
 use Rattle.dw_eval.specs.declared.nquery.NQuery.{NQuery}
 use Rattle.dw_eval.specs.declared.nquery.NQuery.TheVariants as nquery
 use Rattle.dw_eval.specs.declared.nquery.NQuery.TheOpen.{NQuery-F, Equal, Below, Above, Between, Starts, Ends, Holds, Not, And, Or}
 use Rattle.dw_eval.specs.declared.nquery.NQuery.TheFolds.{fold-NQuery}
-use Rattle.dw_eval.specs.Leaves.{holds}
+use Rattle.dw_eval.specs.Values.{normal_view}
+use Rattle.dw_eval.specs.Leaves.{holds, some_value}
 use Rattle.dw_eval.specs.Sat.{sat}
 use Rattle.dw_eval.specs.Kleene.{kleene, truth_of}
+
+-- the normal form passes the test, where there is one
+abbrev pub passes : (List ℕ → Bool) → Option (List ℕ) → Bool
+passes test None = false
+passes test (Some form) = test form
+
+-- some value of a field in a view's normal forms passes a test exactly where some pair of the field has a value whose normal form passes it
+abbrev pub FormsAreOfValues : Type 0
+FormsAreOfValues = (dict : Dictionary) (view : List Pair) (field : List ℕ) (test : List ℕ → Bool) →
+    some_value (normal_view dict view) field test ≡ list_any (λ p. is_same p.field field && passes test (norm (rule_of dict p.field).kind p.raw)) view
 
 -- the Not of an And is the Or of the Nots, and the Not of an Or the And of them
 abbrev pub DeMorgan : Type 0

@@ -13,7 +13,7 @@ pub use binding::{BindError, bind};
 pub use dw_base::OutOfMemory;
 pub use dw_nest::Truth;
 pub use knowing::kleene;
-pub use laws::{holding_is_standing, indexes_know, negation_goes_inward};
+pub use laws::{forms_are_of_values, holding_is_standing, indexes_know, negation_goes_inward};
 pub use nquery::NQuery;
 pub use nview::{Formed, NView};
 pub use satisfying::satisfies;
