@@ -1,5 +1,5 @@
 -- On binding children one after another.
-use Rattle.std.proofs.Common.{◌≡◌, ℕ, ◌≤◌, ◌++◌, [], List, length, drop, map, sym, ap, ◌∙◌, append-nil}
+use Rattle.std.proofs.Common.{◌≡◌, ℕ, ◌≤◌, ◌++◌, List, length, drop, map, sym, ap, ◌∙◌, append-nil}
 use denote.Hole.Carrier.{roll}
 use Rattle.std.proofs.lemmas.List.{drop_all}
 use Rattle.std.specs.Prelude.{Option, Some, None, option_map, encode_utf8_all}

@@ -1,9 +1,9 @@
 -- Some value of a field, by its normal form.
-use Rattle.std.proofs.Common.{◌≡◌, ℕ, Bool, true, false, ◌&&◌, ◌||◌, cond, List, [], ◌∷◌, refl, ap, sym, ◌∙◌}
-use Rattle.std.specs.Prelude.{Option, Some, None, option_map, filter}
+use Rattle.std.proofs.Common.{◌≡◌, ℕ, Bool, true, false, ◌&&◌, ◌||◌, cond, List, [], ◌∷◌, refl, ap, ◌∙◌}
+use Rattle.std.specs.Prelude.{Option, Some, None, option_map}
 use Rattle.std.specs.List.{list_any, cons_option}
 use Rattle.dw_norm.specs.Normal.{norm}
-use Rattle.dw_dict.specs.Dictionary.{Dictionary, rule_of}
+use Rattle.dw_dict.specs.Dictionary.{rule_of}
 use Rattle.dw_event.specs.Texts.{is_same}
 use Rattle.dw_event.specs.declared.views.Pair.{Pair}
 use Rattle.dw_eval.specs.declared.nview.Formed.{Formed}

@@ -1,5 +1,5 @@
 -- The values of a field in a view whose fields ascend.
-use Rattle.std.proofs.Common.{◌≡◌, ℕ, zero, suc, ◌+◌, ◌-◌, ◌<◌, ◌≤◌, Bool, true, false, cond, List, [], ◌∷◌, ◌++◌, length, take, drop, get_or, refl, ap, sym, ◌∙◌, arith}
+use Rattle.std.proofs.Common.{◌≡◌, ℕ, zero, suc, ◌+◌, ◌-◌, ◌<◌, ◌≤◌, Bool, true, false, cond, List, [], ◌∷◌, length, take, drop, get_or, refl, ap, sym, ◌∙◌, arith}
 use Rattle.std.specs.Prelude.{Option, Some, None, option_map, filter}
 use Rattle.std.specs.List.{AllByRecursion, cons_option}
 use Rattle.std.specs.List.Sorted.{IsStrictlySortedBy, IsPartitionedBy, IsPartitionPoint}
@@ -16,7 +16,7 @@ use Rattle.dw_event.specs.Texts.{is_same}
 use Rattle.dw_event.specs.Views as views
 use Rattle.dw_event.specs.declared.views.Pair.{Pair}
 use Rattle.dw_eval.specs.declared.nview.Formed.{Formed}
-use Rattle.dw_eval.specs.Values.{pair_form, normal_view, values_of, FieldsAscend}
+use Rattle.dw_eval.specs.Values.{normal_view, values_of, FieldsAscend}
 
 -- ---- a view whose pairs ascend has fields that ascend
 
