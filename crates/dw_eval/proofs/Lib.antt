@@ -1,0 +1,5 @@
+pub mod Befores
+pub mod Texts
+pub mod Searches
+pub mod Lawful
+pub mod Forms

@@ -1,0 +1,6 @@
+use Rattle.std.proofs.Common.{◌≡◌, ◌++◌, drop}
+use Rattle.dw_eval.specs.Values.{normal_view}
+use Rattle.dw_eval.proofs.nview.normal_pairs.Given as goal
+
+abbrev pub invariant-loop-pair : goal.invariant-loop-pair
+invariant-loop-pair l = l.out.items ++ normal_view l.dict (drop l.pair-index l.pairs) ≡ normal_view l.dict l.pairs

@@ -1,0 +1,6 @@
+pub mod Bound
+pub mod Values
+pub mod Leaves
+pub mod Sat
+pub mod Kleene
+pub mod Laws

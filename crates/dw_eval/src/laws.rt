@@ -1,0 +1,24 @@
+//! What holds of all bound queries. The functions do nothing: their contracts are laws.
+
+ghost use Rattle.dw_eval.specs.Laws.{DeMorgan, FormsAreOfValues, IndexesKnow, HoldsIsStanding};
+
+/// A leaf on the normal forms of a view is met exactly where some value of its field has a normal form that
+/// meets it.
+pub fn forms_are_of_values()
+    ensures { FormsAreOfValues }
+{}
+
+/// The Not of an And is satisfied as the Or of the Nots is, and the Not of an Or as the And of them.
+pub fn negation_goes_inward()
+    ensures { DeMorgan }
+{}
+
+/// Where the field of each leaf is indexed, `kleene` is Yes or No as `satisfies` is true or false.
+pub fn indexes_know()
+    ensures { IndexesKnow }
+{}
+
+/// A form holds a text exactly where the text's bytes stand somewhere in it, one behind another.
+pub fn holding_is_standing()
+    ensures { HoldsIsStanding }
+{}
