@@ -4,3 +4,5 @@ pub mod Moved
 pub mod Memory
 pub mod Doors
 pub mod Streams
+pub mod Tables
+pub mod Reads

@@ -4,26 +4,32 @@
 #![tactic(auto)]
 
 mod again;
+mod cell;
 mod door;
+mod keeper;
 mod keeper_error;
 mod link;
 mod mem_door;
 mod mem_link;
 mod mem_sink;
 mod mem_source;
+mod slot;
 mod std_input;
 mod std_output;
 mod tcp_door;
 mod tcp_link;
 mod traits;
 
+pub use cell::{Cell, Put, Reading};
 pub use door::Door;
+pub use keeper::Keeper;
 pub use keeper_error::KeeperError;
 pub use link::{Link, put_all};
 pub use mem_door::MemDoor;
 pub use mem_link::MemLink;
 pub use mem_sink::MemSink;
 pub use mem_source::MemSource;
+pub use slot::Slot;
 pub use std::alloc::AllocError as OutOfMemory;
 pub use std_input::StdInput;
 pub use std_output::StdOutput;
