@@ -1,0 +1,6 @@
+pub mod Entries
+pub mod Readers
+pub mod UidLists
+pub mod Meta
+pub mod World
+pub mod Tables

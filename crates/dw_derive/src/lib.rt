@@ -1,0 +1,12 @@
+//! The cells of events in the sorted tables, the lists of uids in the cells of the indexes, what keys
+//! say, and the tables of a world.
+#![tactic(auto)]
+
+mod entries;
+mod list_bytes;
+mod uid_list;
+
+pub use dw_base::OutOfMemory;
+pub use entries::Entry;
+pub use list_bytes::BadList;
+pub use uid_list::{Form, UidList, Uids};
