@@ -2,11 +2,11 @@
 //! say, and the tables of a world.
 #![tactic(auto)]
 
-mod entries;
+mod event_cells;
 mod list_bytes;
 mod uid_list;
 
 pub use dw_base::OutOfMemory;
-pub use entries::Entry;
+pub use event_cells::{Entry, doc_text, entries};
 pub use list_bytes::BadList;
 pub use uid_list::{Form, UidList, Uids};
