@@ -6,3 +6,7 @@ pub mod Doors
 pub mod Streams
 pub mod Tables
 pub mod Reads
+pub mod Spans
+pub mod TableLaws
+pub mod Undo
+pub mod MemoryKeeper

@@ -1,15 +1,21 @@
-ghost use Rattle.std.specs.Prelude.{◌≡◌, ◌≢◌, ◌≤◌, ◌⊎◌, ℕ, List, Option, Some, All, IsTrue, IfOk, OnOk, OnErr, Err, vec_len, map as list_map};
+ghost use Rattle.std.specs.Prelude.{◌≡◌, ◌≢◌, ◌≤◌, ◌⊎◌, ◌++◌, ◌∷◌, [], ℕ, List, Option, Some, All, IsTrue, IfOk, OnOk, OnErr, Err, vec_len, map as list_map};
 ghost use Rattle.std.specs.Option.{option_map};
 ghost use Rattle.std.specs.Ordering.{nat_cmp};
 ghost use Rattle.std.specs.Cmp.Lexicographic.{slice_cmp};
 ghost use Rattle.std.specs.List.Sorted.{IsStrictlySortedBy};
+ghost use Rattle.std.specs.FinMap as map;
 ghost use Rattle.dw_outside.specs.Faults.{Rose};
 ghost use Rattle.dw_outside.specs.Tables.{Tables, applied, cell_pair, is_in_span, limited, span_of};
-ghost use Rattle.dw_outside.specs.Reads.{reading_of, with_read};
+ghost use Rattle.dw_outside.specs.Reads.{key_read, reading_of, with_read};
+ghost use Rattle.dw_outside.specs.TableLaws.{cell_of};
 ghost use Rattle.dw_outside.specs.declared.cell.Reading.{Reading};
 
+use crate::OutOfMemory;
 use crate::cell::{Cell, Put};
 use crate::keeper_error::KeeperError;
+use crate::slot::Slot;
+use dw_key::Bytes;
+use std::alloc::Global;
 
 /// A keeper of cells in four ordered tables, by the codes of their keys.
 pub trait Keeper {
@@ -54,4 +60,42 @@ pub trait Keeper {
         ensures unread { OnErr result ((reads self.new ≡ reads self.old) ⊎ (reads self.new ≡ with_read (reads self.old) (reading_of table from.now before.now limit))) }
         ensures counted { faults self.old ≤ faults self.new }
         ensures failed { result ≡ Err KeeperError.Failed → Rose (faults self.old) (faults self.new) };
+}
+
+/// What stands in a slot, by the read of its key alone.
+pub fn read_cell<K: Keeper>(
+    alloc: Global,
+    keeper: &mut K,
+    slot: &Slot,
+) -> Result<Option<Bytes>, KeeperError>
+    requires { slot.now.table ≤ 3 }
+    ensures same { K.told keeper.new ≡ K.told keeper.old }
+    ensures content { (t : Tables) → K.told keeper.old ≡ Some t → IfOk result (λ o. o ≡ map.get t slot.now) }
+    ensures read { OnOk result (K.reads keeper.new ≡ with_read (K.reads keeper.old) (key_read slot.now.table slot.now.key)) }
+    ensures unread { OnErr result ((K.reads keeper.new ≡ K.reads keeper.old) ⊎ (K.reads keeper.new ≡ with_read (K.reads keeper.old) (key_read slot.now.table slot.now.key))) }
+    ensures counted { K.faults keeper.old ≤ K.faults keeper.new }
+    ensures failed { result ≡ Err KeeperError.Failed → Rose (K.faults keeper.old) (K.faults keeper.new) }
+{
+    let before = with_zero(alloc, slot.key.as_slice())?;
+    let mut cells = keeper.scan(slot.table, slot.key.as_slice(), before.as_slice(), 1)?;
+    Ok(only_content(&mut cells))
+}
+
+/// The key and a byte 0, which is the next key.
+fn with_zero(alloc: Global, key: &[u8]) -> Result<Bytes, OutOfMemory>
+    ensures { IfOk result (λ b. b ≡ key.now ++ 0 ∷ []) }
+{
+    let mut all = Vec::from_slice(alloc, key)?;
+    all.push(0)?;
+    Ok(Bytes::from_vec(all))
+}
+
+/// The content of the only cell, where there is one.
+fn only_content(cells: &mut Vec<Cell>) -> Option<Bytes>
+    ensures { (o : Option (List ℕ)) (key : List ℕ) → list_map cell_pair cells.old.items ≡ cell_of key o → result ≡ o }
+{
+    match cells.pop() {
+        None => None,
+        Some(cell) => Some(cell.content),
+    }
 }
