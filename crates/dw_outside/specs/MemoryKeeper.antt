@@ -9,13 +9,14 @@ use Rattle.dw_outside.specs.Faults.{one_more}
 use Rattle.dw_outside.specs.Memory.{FailsNext}
 use Rattle.dw_outside.specs.Tables.{Tables, applied, tables_code}
 
--- a keeper in memory: its tables, the reads made where it tells them, the numbers of the calls that fail, how many calls pass before one more fails, the calls made and those that failed
+-- a keeper in memory: its tables, the reads made where it tells them, the numbers of the calls that fail, how many calls pass before one more fails, the calls made, how many of these were to apply puts, and how many failed
 pub record MemoryKeeper : Type 0 where
   pub tables : Tables
   pub reads : Option (List Reading)
   pub fail_calls : List ℕ
   pub passing : Option ℕ
   pub calls : ℕ
+  pub applies : ℕ
   pub faults : ℕ
 
 abbrev pub coded_reading : Coded Reading
@@ -27,10 +28,10 @@ coded_reading =
 
 abbrev pub keeper_code : Coded MemoryKeeper
 keeper_code =
-    code_by (Tables × (Option (List Reading) × (List ℕ × (Option ℕ × (ℕ × ℕ)))))
-    (coded× tables_code (coded× (coded_option (coded_list coded_reading)) (coded× (coded_list coded_ℕ) (coded× (coded_option coded_ℕ) (coded× coded_ℕ coded_ℕ)))))
-    (λ k. (k.tables, (k.reads, (k.fail_calls, (k.passing, (k.calls, k.faults))))))
-    (λ p. record { tables = p.0; reads = p.1.0; fail_calls = p.1.1.0; passing = p.1.1.1.0; calls = p.1.1.1.1.0; faults = p.1.1.1.1.1 })
+    code_by (Tables × (Option (List Reading) × (List ℕ × (Option ℕ × (ℕ × (ℕ × ℕ))))))
+    (coded× tables_code (coded× (coded_option (coded_list coded_reading)) (coded× (coded_list coded_ℕ) (coded× (coded_option coded_ℕ) (coded× coded_ℕ (coded× coded_ℕ coded_ℕ))))))
+    (λ k. (k.tables, (k.reads, (k.fail_calls, (k.passing, (k.calls, (k.applies, k.faults)))))))
+    (λ p. record { tables = p.0; reads = p.1.0; fail_calls = p.1.1.0; passing = p.1.1.1.0; calls = p.1.1.1.1.0; applies = p.1.1.1.1.1.0; faults = p.1.1.1.1.1.1 })
     (λ _. refl)
 
 -- the next call is among those that fail, or no call is left to pass before the one that fails

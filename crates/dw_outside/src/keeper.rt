@@ -1,10 +1,10 @@
-ghost use Rattle.std.specs.Prelude.{◌≡◌, ◌≢◌, ◌≤◌, ◌⊎◌, ◌++◌, ◌∷◌, [], ℕ, List, Option, Some, All, IsTrue, IfOk, OnOk, OnErr, Err, vec_len, map as list_map};
+ghost use Rattle.std.specs.Prelude.{◌≡◌, ◌≢◌, ◌≤◌, ◌⊎◌, ◌++◌, ◌∷◌, [], ℕ, List, Option, Some, None, All, IsTrue, IfOk, OnOk, OnErr, Err, vec_len, map as list_map};
 ghost use Rattle.std.specs.Option.{option_map};
 ghost use Rattle.std.specs.Ordering.{nat_cmp};
 ghost use Rattle.std.specs.Cmp.Lexicographic.{slice_cmp};
 ghost use Rattle.std.specs.List.Sorted.{IsStrictlySortedBy};
 ghost use Rattle.std.specs.FinMap as map;
-ghost use Rattle.dw_outside.specs.Faults.{Rose};
+ghost use Rattle.dw_outside.specs.Faults.{Rose, one_more};
 ghost use Rattle.dw_outside.specs.Tables.{Tables, applied, cell_pair, is_in_span, limited, span_of};
 ghost use Rattle.dw_outside.specs.Reads.{key_read, reading_of, with_read};
 ghost use Rattle.dw_outside.specs.TableLaws.{cell_of};
@@ -28,12 +28,16 @@ pub trait Keeper {
     /// How many faults there were; the count stands still at 2^64 - 1.
     ghost faults: { Self → ℕ };
 
+    /// How often it was asked to apply puts, where told; the count stands still at 2^64 - 1.
+    ghost asked: { Self → Option ℕ } = { λ _. None };
+
     /// Sets all contents, or none.
     fn apply(&mut self, puts: &[Put]) -> Result<(), KeeperError>
         requires { All (λ p. p.table ≤ 3) puts.now }
         ensures ok { OnOk result (told self.new ≡ option_map (applied puts.now) (told self.old)) }
         ensures err { OnErr result (told self.new ≡ told self.old) }
         ensures reads { reads self.new ≡ reads self.old }
+        ensures asked { asked self.new ≡ option_map one_more (asked self.old) }
         ensures counted { faults self.old ≤ faults self.new }
         ensures failed { result ≡ Err KeeperError.Failed → Rose (faults self.old) (faults self.new) };
 
@@ -58,6 +62,7 @@ pub trait Keeper {
         // An error adds the read or leaves the reads.
         ensures read { OnOk result (reads self.new ≡ with_read (reads self.old) (reading_of table from.now before.now limit)) }
         ensures unread { OnErr result ((reads self.new ≡ reads self.old) ⊎ (reads self.new ≡ with_read (reads self.old) (reading_of table from.now before.now limit))) }
+        ensures unasked { asked self.new ≡ asked self.old }
         ensures counted { faults self.old ≤ faults self.new }
         ensures failed { result ≡ Err KeeperError.Failed → Rose (faults self.old) (faults self.new) };
 }
@@ -73,6 +78,7 @@ pub fn read_cell<K: Keeper>(
     ensures content { (t : Tables) → K.told keeper.old ≡ Some t → IfOk result (λ o. o ≡ map.get t slot.now) }
     ensures read { OnOk result (K.reads keeper.new ≡ with_read (K.reads keeper.old) (key_read slot.now.table slot.now.key)) }
     ensures unread { OnErr result ((K.reads keeper.new ≡ K.reads keeper.old) ⊎ (K.reads keeper.new ≡ with_read (K.reads keeper.old) (key_read slot.now.table slot.now.key))) }
+    ensures unasked { K.asked keeper.new ≡ K.asked keeper.old }
     ensures counted { K.faults keeper.old ≤ K.faults keeper.new }
     ensures failed { result ≡ Err KeeperError.Failed → Rose (K.faults keeper.old) (K.faults keeper.new) }
 {

@@ -4,7 +4,7 @@ ghost use Rattle.std.specs.Ordering.{nat_cmp};
 ghost use Rattle.std.specs.Cmp.Lexicographic.{slice_cmp};
 ghost use Rattle.std.specs.List.Sorted.{IsStrictlySortedBy};
 ghost use Rattle.std.specs.FinMap as map;
-ghost use Rattle.dw_outside.specs.Faults.{Rose};
+ghost use Rattle.dw_outside.specs.Faults.{Rose, one_more};
 ghost use Rattle.dw_outside.specs.Tables.{Tables, applied, cell_pair, is_in_span, limited, span_of};
 ghost use Rattle.dw_outside.specs.Reads.{reading_of, with_read};
 ghost use Rattle.dw_outside.specs.MemoryKeeper.{called, failed_call, keeper_after, tables_after, one_passed, IsDue};
@@ -27,6 +27,7 @@ pub struct MemKeeper {
     fail_calls: Vec<u64>,
     passing: Option<u64>,
     calls: u64,
+    applies: u64,
     faults: u64,
 }
 
@@ -44,6 +45,7 @@ impl Model for MemKeeper {
       fail_calls = k.fail_calls.items;
       passing = k.passing;
       calls = k.calls;
+      applies = k.applies;
       faults = k.faults;
     } };
 }
@@ -56,6 +58,7 @@ impl MemKeeper {
         ensures fail_calls { result.fail_calls ≡ fail_calls.items }
         ensures passing { result.passing ≡ None }
         ensures calls { result.calls ≡ 0 }
+        ensures applies { result.applies ≡ 0 }
         ensures faults { result.faults ≡ 0 }
     {
         MemKeeper {
@@ -65,6 +68,7 @@ impl MemKeeper {
             fail_calls,
             passing: None,
             calls: 0,
+            applies: 0,
             faults: 0,
         }
     }
@@ -76,6 +80,7 @@ impl MemKeeper {
         ensures fail_calls { result.fail_calls ≡ [] }
         ensures passing { result.passing ≡ None }
         ensures calls { result.calls ≡ 0 }
+        ensures applies { result.applies ≡ 0 }
         ensures faults { result.faults ≡ 0 }
     {
         MemKeeper {
@@ -85,6 +90,7 @@ impl MemKeeper {
             fail_calls: Vec::new(alloc),
             passing: None,
             calls: 0,
+            applies: 0,
             faults: 0,
         }
     }
@@ -161,18 +167,22 @@ impl Keeper for MemKeeper {
 
     ghost faults = { λ k. k.faults };
 
+    ghost asked = { λ k. Some k.applies };
+
     /// Fails at the named calls, and else sets all contents or wants memory.
     fn apply(&mut self, puts: &[Put]) -> Result<(), KeeperError>
         ensures ok { OnOk result (Some self.new.tables ≡ option_map (applied puts.now) (Some self.old.tables)) }
         ensures err { OnErr result (Some self.new.tables ≡ Some self.old.tables) }
         ensures reads { self.new.reads ≡ self.old.reads }
+        ensures asked { Some self.new.applies ≡ option_map one_more (Some self.old.applies) }
         ensures counted { self.old.faults ≤ self.new.faults }
         ensures failed { result ≡ Err KeeperError.Failed → Rose self.old.faults self.new.faults }
 
         // It fails at the named calls and at no others.
         ensures fails { (result ≡ Err KeeperError.Failed) ↔ IsDue self.old }
-        ensures after { self.new ≡ record (keeper_after self.old result) { tables = tables_after self.old.tables puts.now result } }
+        ensures after { self.new ≡ record (keeper_after self.old result) { tables = tables_after self.old.tables puts.now result; applies = one_more self.old.applies } }
     {
+        self.applies = self.applies.saturating_add(1);
         if self.fails() {
             return Err(KeeperError::Failed);
         }
@@ -196,6 +206,7 @@ impl Keeper for MemKeeper {
         ensures few { IfOk result (λ cells. limit ≢ 0 → vec_len cells ≤ limit) }
         ensures read { OnOk result (self.new.reads ≡ with_read self.old.reads (reading_of table from.now before.now limit)) }
         ensures unread { OnErr result ((self.new.reads ≡ self.old.reads) ⊎ (self.new.reads ≡ with_read self.old.reads (reading_of table from.now before.now limit))) }
+        ensures unasked { Some self.new.applies ≡ Some self.old.applies }
         ensures counted { self.old.faults ≤ self.new.faults }
         ensures failed { result ≡ Err KeeperError.Failed → Rose self.old.faults self.new.faults }
 

@@ -144,8 +144,8 @@ impl Store {
         Ok(cells)
     }
 
-    /// Sets one content, and gives what the slot had.
-    fn put(&mut self, slot: Slot, content: Bytes) -> Result<Option<Bytes>, OutOfMemory>
+    /// Sets one content, and gives what the slot had. After an error the tables are as before.
+    pub fn put(&mut self, slot: Slot, content: Bytes) -> Result<Option<Bytes>, OutOfMemory>
         ensures ok { OnOk result (self.new ≡ map.insert self.old slot content) }
         ensures was { IfOk result (λ was. was ≡ map.get self.old slot) }
         ensures err { OnErr result (self.new ≡ self.old) }
