@@ -4,3 +4,5 @@ pub mod UidLists
 pub mod Meta
 pub mod World
 pub mod Tables
+pub mod Lawful
+pub mod Laws
