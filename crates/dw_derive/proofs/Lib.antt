@@ -2,3 +2,4 @@ pub mod Lists
 pub mod Maps
 pub mod Sets
 pub mod Given
+pub mod UidListLemmas

@@ -1,6 +1,7 @@
 -- Lists of uids, and their bytes.
-use Rattle.std.specs.Prelude.{◌≡◌, ◌↔◌, ℕ, zero, suc, ◌+◌, ◌-◌, ◌*◌, ◌^◌, ◌<◌, ◌≤◌, ◌==◌, Bool, true, ◌&&◌, not, nat_le, nat_lt, min, List, [], ◌∷◌, ◌++◌, length, take, drop, Option, Some, None, Result, Ok, Err, if◌then◌else◌}
+use Rattle.std.specs.Prelude.{◌≡◌, ◌↔◌, ◌⊎◌, MatchResult, ℕ, zero, suc, ◌+◌, ◌-◌, ◌*◌, ◌^◌, ◌<◌, ◌≤◌, ◌==◌, Bool, true, ◌&&◌, not, nat_le, nat_lt, min, List, [], ◌∷◌, ◌++◌, length, take, Option, Some, None, Result, Ok, Err, if◌then◌else◌}
 use Rattle.std.specs.List.{AllByRecursion, flat_map}
+use Rattle.std.specs.Simd.{first_chunks}
 use Rattle.std.specs.Int.{w64, to_be_bytes, from_be_bytes}
 use Rattle.std.specs.Ordering.{nat_cmp, is_lt}
 use Rattle.std.specs.Cmp.Lexicographic.{slice_cmp}
@@ -12,7 +13,7 @@ use Rattle.dw_derive.specs.declared.uid_list.Form.TheVariants.{One, Two}
 use Rattle.dw_derive.specs.declared.uid_list.UidList.{UidList}
 use Rattle.dw_derive.specs.declared.uid_list.UidList.TheVariants.{Kept, Counted}
 use Rattle.dw_derive.specs.declared.list_bytes.BadList.{BadList}
-use Rattle.dw_derive.specs.declared.list_bytes.BadList.TheVariants.{Form as FormFault, Cut, Count, Order, Tail}
+use Rattle.dw_derive.specs.declared.list_bytes.BadList.TheVariants.{Form as FormFault, Cut, Count, Order, Tail, OutOfMemory}
 
 -- uids ascend as lists of unsigned bytes
 abbrev pub uid_cmp : List ℕ → List ℕ → Ordering
@@ -61,8 +62,7 @@ IsListOf form (Counted n) = (cap form < n) × (n ≤ largest_count)
 
 -- so many texts of 32 bytes each from the front
 abbrev pub chunks : ℕ → List ℕ → List (List ℕ)
-chunks zero bytes = []
-chunks (suc n) bytes = take 32 bytes ∷ chunks n (drop 32 bytes)
+chunks n bytes = first_chunks 32 n bytes
 
 -- each uid is below the next one
 abbrev pub ascend_from : List ℕ → List (List ℕ) → Bool
@@ -105,6 +105,14 @@ list_read (zero ∷ bytes) = Err FormFault
 list_read (suc zero ∷ bytes) = body_read One bytes
 list_read (suc (suc zero) ∷ bytes) = body_read Two bytes
 list_read (suc (suc (suc b)) ∷ bytes) = Err FormFault
+
+-- a list that bytes spell is given, unless memory runs out
+abbrev pub GivesTheList : List ℕ → Result (Form × UidList) BadList → Type 0
+GivesTheList bytes result = (l : Form × UidList) → list_read bytes ≡ Ok l → (result ≡ Ok l) ⊎ (result ≡ Err OutOfMemory)
+
+-- a result is what was read, unless memory runs out
+abbrev pub ReadsAs : Result (Form × UidList) BadList → Result (Form × UidList) BadList → Type 0
+ReadsAs read result = MatchResult read (λ l. (result ≡ Ok l) ⊎ (result ≡ Err OutOfMemory)) (λ e. result ≡ Err e)
 
 -- bytes spell a list exactly where they are its bytes in that form, so that each list has one spelling a form
 abbrev pub ListsHaveOneSpelling : Type 0
