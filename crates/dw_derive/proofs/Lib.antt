@@ -1,1 +1,2 @@
-mod UidListLemmas
+pub mod UidListLemmas
+pub mod Spellings
