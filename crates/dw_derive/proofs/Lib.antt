@@ -3,3 +3,7 @@ pub mod Maps
 pub mod Sets
 pub mod Given
 pub mod UidListLemmas
+pub mod Spellings
+pub mod Orders
+pub mod Shards
+pub mod Growing

@@ -8,5 +8,5 @@ mod uid_list;
 
 pub use dw_base::OutOfMemory;
 pub use event_cells::{Entry, doc_text, entries};
-pub use list_bytes::BadList;
+pub use list_bytes::{BadList, decode_list, encode_list, lists_have_one_spelling};
 pub use uid_list::{Form, UidList, Uids};

@@ -1,5 +1,5 @@
 ghost use Rattle.std.specs.Prelude.{◌≡◌, ◌≢◌, ◌<◌, length, IfOk, IfErr, IsOk, Ok, Err};
-ghost use Rattle.dw_derive.specs.UidLists.{IsListOf, list_bytes, list_read, body_read, kept_read, counted_read, ascend, ReadsAs, GivesTheList};
+ghost use Rattle.dw_derive.specs.UidLists.{IsListOf, list_bytes, list_read, body_read, kept_read, counted_read, ascend, ReadsAs, GivesTheList, ListsHaveOneSpelling};
 ghost use Rattle.dw_derive.specs.declared.list_bytes.BadList.TheVariants.{OutOfMemory};
 ghost use Rattle.dw_derive.specs.declared.uid_list.UidList.TheVariants.{Kept, Counted};
 
@@ -153,3 +153,8 @@ fn counted_of(form: Form, bytes: &[u8]) -> Result<(Form, UidList), BadList>
     }
     Ok((form, UidList::Counted(count)))
 }
+
+/// A list has one spelling in each form. The function does nothing: its contract is a law.
+pub fn lists_have_one_spelling()
+    ensures { ListsHaveOneSpelling }
+{}

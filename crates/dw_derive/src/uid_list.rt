@@ -69,7 +69,9 @@ impl UidList {
             UidList::Kept(uids) if uids.as_slice().len() < form.cap() => {
                 Ok(UidList::Kept(with(uids, uid)?))
             }
-            UidList::Kept(uids) => Ok(UidList::Counted((uids.as_slice().len() as u64).saturating_add(1))),
+            UidList::Kept(uids) => Ok(UidList::Counted(
+                (uids.as_slice().len() as u64).saturating_add(1),
+            )),
             UidList::Counted(count) => Ok(UidList::Counted(count.saturating_add(1))),
         }
     }

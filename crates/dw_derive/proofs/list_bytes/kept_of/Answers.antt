@@ -29,4 +29,3 @@ pub from_ascending-requires : goal.from_ascending-requires
 from_ascending-requires c =
     is_ascending c.in_ok-inner.inner.items
     (ap ascend c.in_ok-inner.ensures.items ∙ sym c.ascends.ensures ∙ c.if-not-ascends.false)
-

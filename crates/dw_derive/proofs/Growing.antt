@@ -1,0 +1,154 @@
+-- On what one event more makes of the tables.
+use Rattle.std.proofs.Common.{◌≡◌, ◌<◌, ◌≤◌, ◌+◌, ◌||◌, ◌&&◌, ◌==◌, ℕ, zero, suc, Bool, true, false, cond, nat_le, nat_lt, List, [], ◌∷◌, ◌++◌, map, length, refl, sym, ap, ◌∙◌, arith}
+use Rattle.std.specs.Prelude.{Option, Some, None, Ok, min}
+use Rattle.std.specs.Option.{option_or}
+use Rattle.std.specs.List.{list_any, flat_map, filter, AllByRecursion}
+use Rattle.std.specs.List.Sorted.{IsStrictlySortedBy}
+use Rattle.std.specs.Map.{lookup, keys_of}
+use Rattle.std.specs.BTreeMap.{is_at, insert_entry}
+use Rattle.std.specs.BTreeSet.{insert_key}
+use Rattle.std.specs.Ordering.{is_eq}
+use Rattle.std.specs.FinMap.{find, get, get-from_entries}
+use Rattle.std.specs.FinSet as set
+use Rattle.std.specs.declared.cmp.Ordering.{Ordering}
+use Rattle.std.specs.declared.cmp.Ordering.TheVariants.{Less}
+use Rattle.std.proofs.lemmas.Map.{NonePasses, none_passes_from_lookup}
+use Rattle.std.proofs.lemmas.List.{length-map}
+use Rattle.std.proofs.lemmas.Bool.Decides.{nat_tests}
+use Rattle.dw_key.specs.KeyLaws.{CodesTellKeys}
+use Rattle.dw_event.specs.declared.records.Place.{Place}
+use Rattle.dw_event.specs.Places.{place_cmp}
+use Rattle.dw_event.specs.Names.{lacks_zero}
+use Rattle.dw_event.specs.Take.{Event}
+use Rattle.dw_base.specs.Ascending.{IsAscending}
+use Rattle.dw_outside.specs.declared.slot.Slot.{Slot}
+use Rattle.dw_outside.specs.Tables.{slot_cmp, is_slot}
+use Rattle.dw_outside.proofs.CellMaps.{exact_slots, slots_total}
+use Rattle.dw_derive.specs.declared.uid_list.Form.{Form}
+use Rattle.dw_derive.specs.declared.uid_list.Form.TheVariants.{One, Two}
+use Rattle.dw_derive.specs.declared.uid_list.UidList.{UidList}
+use Rattle.dw_derive.specs.declared.uid_list.UidList.TheVariants.{Kept, Counted}
+use Rattle.dw_derive.specs.UidLists.{uid_cmp, cap, largest_count, list_of, added, list_bytes, list_read, IsUid, IsListOf}
+use Rattle.dw_derive.specs.Entries.{slots_of}
+use Rattle.dw_derive.specs.World.{World}
+use Rattle.dw_derive.specs.Tables.{gives, uid_of, givers, content, event_cells, form_at, meta_cells, tables}
+use Rattle.dw_derive.specs.Lawful.{IsEvent, HasEvents, IsFree, with_event}
+use Rattle.dw_derive.specs.Laws.{list_of_one, list_after, list_with, grown}
+use Rattle.dw_derive.proofs.Lists.{any_flat, filter_none, all_pass, any_inserted, length_inserted, map_inserted, filter_inserted, all_filtered}
+use Rattle.dw_derive.proofs.Maps.{find_of}
+use Rattle.dw_derive.proofs.Given.{below_three, one_shard, meta_cells_are_meta, not_meta, not_zero}
+use Rattle.dw_derive.proofs.Orders.{places_total, place_by_uid}
+use Rattle.dw_derive.proofs.UidListLemmas.{list_read_back}
+use Rattle.dw_derive.proofs.Shards.{shard_lacks}
+
+-- ---- what tables have in a slot
+
+find_append : (a b : List (Slot × List ℕ)) (s : Slot) → find slot_cmp s (a ++ b) ≡ option_or (find slot_cmp s a) (find slot_cmp s b)
+find_append [] b s = refl
+find_append (e ∷ a) b s = at (is_slot s e.0) (find_append a b s)
+  where
+    at : (t : Bool) → find slot_cmp s (a ++ b) ≡ option_or (find slot_cmp s a) (find slot_cmp s b) → cond t (Some e.1) (find slot_cmp s (a ++ b)) ≡ option_or (cond t (Some e.1) (find slot_cmp s a)) (find slot_cmp s b)
+    at true r = refl
+    at false r = r
+
+or_at : {A : Type 0} (b : Bool) (x : A) (o : Option A) → option_or (cond b (Some x) None) o ≡ cond b (Some x) o
+or_at true x o = refl
+or_at false x o = refl
+
+-- what a slot that is given has
+abbrev pub content_at : World → Slot → List ℕ
+content_at w s = content (form_at w.old) (slots_of w.dict) w.events s
+
+pub get_tables : (w : World) (s : Slot) → get (tables w) s ≡ cond (list_any (gives (slots_of w.dict) s) w.events) (Some (content_at w s)) (find slot_cmp s (meta_cells w))
+unfolding tables
+get_tables w s =
+    get-from_entries slots_total (event_cells (form_at w.old) (slots_of w.dict) w.events ++ meta_cells w) s
+    ∙ find_append (event_cells (form_at w.old) (slots_of w.dict) w.events) (meta_cells w) s
+    ∙ ap (λ o. option_or o (find slot_cmp s (meta_cells w)))
+    (find_of exact_slots (content_at w) (flat_map (slots_of w.dict) w.events) s ∙ ap (λ b. cond b (Some (content_at w s)) None) (any_flat (is_slot s) (slots_of w.dict) w.events))
+    ∙ or_at (list_any (gives (slots_of w.dict) s) w.events) (content_at w s) (find slot_cmp s (meta_cells w))
+
+-- ---- the uids of one slot
+
+all_uids : (es : List Event) → AllByRecursion IsEvent es → AllByRecursion IsUid (map uid_of es)
+all_uids [] h = tt
+all_uids (e ∷ es) h = (h.0.uid, all_uids es h.1)
+
+above : (e : Event) (es : List Event) → AllByRecursion (λ y. place_cmp e.0 y ≡ Less) (keys_of es) → AllByRecursion (λ (d : Event). (e.0.shard ≡ d.0.shard) × (e.0.key.dtype ≡ d.0.key.dtype)) es
+    → AllByRecursion (λ y. uid_cmp (uid_of e) y ≡ Less) (map uid_of es)
+above e [] h k = tt
+above e (d ∷ es) h k = (sym (place_by_uid e.0 d.0 k.0.0 k.0.1) ∙ h.0, above e es h.1 k.1)
+
+-- where all are of one shard and type, the uids ascend as the places do
+abbrev Alike : List Event → Type 0
+Alike es = (e : Event) → (AllByRecursion (λ d. d ≡ e) [])
+
+module _ (tell : CodesTellKeys) (w : World) (s : Slot) (t : (s.table == 0) ≡ false) where
+  abbrev Gives : Event → Type 0
+  Gives e = IsEvent e × (gives (slots_of w.dict) s e ≡ true)
+
+  like : (e d : Event) → Gives e → Gives d → (e.0.shard ≡ d.0.shard) × (e.0.key.dtype ≡ d.0.key.dtype)
+  like e d g h = one_shard tell w.dict s e d (shard_lacks e g.0) (shard_lacks d h.0) t g.1 h.1
+
+  all_like : (e : Event) → Gives e → (es : List Event) → AllByRecursion Gives es → AllByRecursion (λ (d : Event). (e.0.shard ≡ d.0.shard) × (e.0.key.dtype ≡ d.0.key.dtype)) es
+  all_like e g [] h = tt
+  all_like e g (d ∷ es) h = (like e d g h.0, all_like e g es h.1)
+
+  uids_ascend : (es : List Event) → IsStrictlySortedBy place_cmp (keys_of es) → AllByRecursion Gives es → IsStrictlySortedBy uid_cmp (map uid_of es)
+  unfolding IsStrictlySortedBy
+  uids_ascend [] k h = tt
+  uids_ascend (e ∷ es) k h = (above e es k.0 (all_like e h.0 es h.1), uids_ascend es k.1 h.1)
+
+  kept_keys : (P : Place → Type 0) (p : Event → Bool) (es : List Event) → AllByRecursion P (keys_of es) → AllByRecursion P (keys_of (filter p es))
+  kept_keys P p [] h = tt
+  kept_keys P p (e ∷ es) h = at (p e) (kept_keys P p es h.1)
+    where
+      at : (b : Bool) → AllByRecursion P (keys_of (filter p es)) → AllByRecursion P (keys_of (cond b (e ∷ filter p es) (filter p es)))
+      at true r = (h.0, r)
+      at false r = r
+
+  pub ascends_filtered : (p : Event → Bool) (es : List Event) → IsStrictlySortedBy place_cmp (keys_of es) → IsStrictlySortedBy place_cmp (keys_of (filter p es))
+  unfolding IsStrictlySortedBy
+  ascends_filtered p [] k = tt
+  ascends_filtered p (e ∷ es) k = at (p e) (ascends_filtered p es k.1)
+    where
+      at : (b : Bool) → IsStrictlySortedBy place_cmp (keys_of (filter p es)) → IsStrictlySortedBy place_cmp (keys_of (cond b (e ∷ filter p es) (filter p es)))
+      at true r = (kept_keys (λ y. place_cmp e.0 y ≡ Less) p es k.0, r)
+      at false r = r
+
+  abbrev uids : List (List ℕ)
+  uids = map uid_of (givers (slots_of w.dict) w.events s)
+
+  some : (es : List Event) → list_any (gives (slots_of w.dict) s) es ≡ true → 1 ≤ length (map uid_of (filter (gives (slots_of w.dict) s) es))
+  some [] h = cc
+  some (e ∷ es) h = at (gives (slots_of w.dict) s e) h (some es)
+    where
+      at : (b : Bool) → (b || list_any (gives (slots_of w.dict) s) es) ≡ true → (list_any (gives (slots_of w.dict) s) es ≡ true → 1 ≤ length (map uid_of (filter (gives (slots_of w.dict) s) es)))
+          → 1 ≤ length (map uid_of (cond b (e ∷ filter (gives (slots_of w.dict) s) es) (filter (gives (slots_of w.dict) s) es)))
+      at true h r = omega arith
+      at false h r = r h
+
+  le_true : (n c : ℕ) → nat_le n c ≡ true → n ≤ c
+  le_true n c h = grind (arith, nat_tests)
+
+  le_false : (n c : ℕ) → nat_le n c ≡ false → c < n
+  le_false n c h = grind (arith, nat_tests)
+
+  small : (form : Form) → cap form ≤ 50
+  small One = omega arith
+  small Two = omega arith
+
+  listed : (form : Form) (us : List (List ℕ)) → 1 ≤ length us → AllByRecursion IsUid us → IsAscending uid_cmp us → IsListOf form (list_of form us)
+  listed form us one all up = at (nat_le (length us) (cap form)) refl
+    where
+      at : (b : Bool) → nat_le (length us) (cap form) ≡ b → IsListOf form (cond b (Kept us) (Counted (min (length us) largest_count)))
+      at true e = (one, le_true (length us) (cap form) e, all, up)
+      at false e = let more : cap form < length us = le_false (length us) (cap form) e in let few : cap form ≤ 50 = small form in (omega arith, omega arith)
+
+  -- the list of a slot that is given is read back
+  pub read_again : HasEvents w → list_any (gives (slots_of w.dict) s) w.events ≡ true → (form : Form) → list_read (list_bytes form (list_of form uids)) ≡ Ok (form, list_of form uids)
+  read_again has any form =
+      let given : AllByRecursion Gives (givers (slots_of w.dict) w.events s) = all_pass IsEvent Gives (gives (slots_of w.dict) s) (λ d i h. (i, h)) w.events has.lawful in
+      list_read_back form (list_of form uids) (listed form uids (some w.events any)
+      (all_uids (givers (slots_of w.dict) w.events s) (all_filtered IsEvent (gives (slots_of w.dict) s) w.events has.lawful))
+      (uids_ascend (givers (slots_of w.dict) w.events s) (ascends_filtered (gives (slots_of w.dict) s) w.events has.ascend) given))
