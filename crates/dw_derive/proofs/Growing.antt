@@ -38,7 +38,7 @@ use Rattle.dw_derive.proofs.Lists.{any_flat, filter_none, all_pass, any_inserted
 use Rattle.dw_derive.proofs.Maps.{find_of}
 use Rattle.dw_derive.proofs.Given.{below_three, one_shard, meta_cells_are_meta, not_meta, not_zero}
 use Rattle.dw_derive.proofs.Orders.{places_total, place_by_uid}
-use Rattle.dw_derive.proofs.UidListLemmas.{list_read_back}
+use Rattle.dw_derive.proofs.Spellings.{list_read_back}
 use Rattle.dw_derive.proofs.Shards.{shard_lacks}
 
 -- ---- what tables have in a slot
@@ -78,10 +78,6 @@ above : (e : Event) (es : List Event) → AllByRecursion (λ y. place_cmp e.0 y 
     → AllByRecursion (λ y. uid_cmp (uid_of e) y ≡ Less) (map uid_of es)
 above e [] h k = tt
 above e (d ∷ es) h k = (sym (place_by_uid e.0 d.0 k.0.0 k.0.1) ∙ h.0, above e es h.1 k.1)
-
--- where all are of one shard and type, the uids ascend as the places do
-abbrev Alike : List Event → Type 0
-Alike es = (e : Event) → (AllByRecursion (λ d. d ≡ e) [])
 
 module _ (tell : CodesTellKeys) (w : World) (s : Slot) (t : (s.table == 0) ≡ false) where
   abbrev Gives : Event → Type 0
@@ -152,3 +148,103 @@ module _ (tell : CodesTellKeys) (w : World) (s : Slot) (t : (s.table == 0) ≡ f
       list_read_back form (list_of form uids) (listed form uids (some w.events any)
       (all_uids (givers (slots_of w.dict) w.events s) (all_filtered IsEvent (gives (slots_of w.dict) s) w.events has.lawful))
       (uids_ascend (givers (slots_of w.dict) w.events s) (ascends_filtered (gives (slots_of w.dict) s) w.events has.ascend) given))
+
+-- ---- the list of a slot with one uid more
+
+min_more : (n m : ℕ) → min (n + 1) m ≡ min (min n m + 1) m
+min_more n m = omega arith
+
+le_more : (n c : ℕ) → nat_le (n + 1) c ≡ nat_lt n c
+le_more n c = grind (arith, nat_tests)
+
+le_lt : (n c : ℕ) → nat_le n c ≡ false → nat_lt n c ≡ false
+le_lt n c h = grind (arith, nat_tests)
+
+list_more : (form : Form) (us : List (List ℕ)) (u : List ℕ) → length (insert_key uid_cmp us u) ≡ length us + 1 → list_of form (insert_key uid_cmp us u) ≡ added form (list_of form us) u
+list_more form us u h =
+    ap (λ n. cond (nat_le n (cap form)) (Kept (insert_key uid_cmp us u)) (Counted (min n largest_count))) h
+    ∙ ap (λ b. cond b (Kept (insert_key uid_cmp us u)) (Counted (min (length us + 1) largest_count))) (le_more (length us) (cap form))
+    ∙ at (nat_le (length us) (cap form)) refl
+  where
+    at : (b : Bool) → nat_le (length us) (cap form) ≡ b → cond (nat_lt (length us) (cap form)) (Kept (insert_key uid_cmp us u)) (Counted (min (length us + 1) largest_count)) ≡ added form (cond b (Kept us) (Counted (min (length us) largest_count))) u
+    at true e = refl
+    at false e = ap (λ b. cond b (Kept (insert_key uid_cmp us u)) (Counted (min (length us + 1) largest_count))) (le_lt (length us) (cap form) e) ∙ ap Counted (min_more (length us) largest_count)
+
+-- ---- the tables with one event more
+
+not_given : {A : Type 0} (b : Bool) → b ≡ true → b ≡ false → A
+not_given true h k = cc
+not_given false h k = cc
+
+module _ (tell : CodesTellKeys) (w : World) (e : Event) (has : HasEvents w) (event : IsEvent e) (free : IsFree w e) (s : Slot) where
+  abbrev slots : Event → List Slot
+  slots = slots_of w.dict
+
+  abbrev more : List Event
+  more = insert_entry place_cmp w.events e.0 e.1
+
+  abbrev form : Form
+  form = form_at w.old s
+
+  abbrev before : List (List ℕ)
+  before = map uid_of (givers slots w.events s)
+
+  fresh : NonePasses (is_at (place_cmp e.0)) w.events
+  fresh = none_passes_from_lookup (is_at (place_cmp e.0)) w.events free
+
+  givers_more : givers slots more s ≡ cond (gives slots s e) (insert_entry place_cmp (givers slots w.events s) e.0 e.1) (givers slots w.events s)
+  givers_more = filter_inserted place_cmp places_total (gives slots s) w.events e.0 e.1 has.ascend fresh
+
+  -- what the slot has with the event, where that gives it
+  list_now : (s.table == 0) ≡ false → gives slots s e ≡ true → list_of form (map uid_of (givers slots more s)) ≡ added form (list_of form before) (uid_of e)
+  list_now t g =
+      let few : NonePasses (is_at (place_cmp e.0)) (givers slots w.events s) = all_filtered _ (gives slots s) w.events fresh in
+      let alike : AllByRecursion (λ (d : Event). place_cmp e.0 d.0 ≡ uid_cmp (uid_of e) (uid_of d)) (givers slots w.events s) =
+      all_pass IsEvent _ (gives slots s) (λ d i h. let one : (e.0.shard ≡ d.0.shard) × (e.0.key.dtype ≡ d.0.key.dtype) = one_shard tell w.dict s e d (shard_lacks e event) (shard_lacks d i) t g h in place_by_uid e.0 d.0 one.0 one.1) w.events has.lawful in
+      let grew : map uid_of (insert_entry place_cmp (givers slots w.events s) e.0 e.1) ≡ insert_key uid_cmp before (uid_of e) = map_inserted place_cmp uid_cmp uid_of (givers slots w.events s) e.0 e.1 few alike in
+      let long : length (insert_key uid_cmp before (uid_of e)) ≡ length before + 1 =
+      ap length (sym grew) ∙ length-map (insert_entry place_cmp (givers slots w.events s) e.0 e.1) uid_of ∙ length_inserted place_cmp (givers slots w.events s) e.0 e.1 few ∙ ap (λ n. n + 1) (sym (length-map (givers slots w.events s) uid_of)) in
+      ap (λ ds. list_of form (map uid_of ds)) (givers_more ∙ ap (λ b. cond b (insert_entry place_cmp (givers slots w.events s) e.0 e.1) (givers slots w.events s)) g)
+      ∙ ap (list_of form) grew
+      ∙ list_more form before (uid_of e) long
+
+  no_meta : gives slots s e ≡ true → find slot_cmp s (meta_cells w) ≡ None
+  no_meta g = not_meta s (below_three w.dict e s g) (meta_cells w) (meta_cells_are_meta w)
+
+  newer : (b : Bool) → set.contains w.old s ≡ b → list_any (gives slots s) w.events ≡ false → cond b One Two ≡ Two
+  newer true o h = not_given (list_any (gives slots s) w.events) (has.old s o) h
+  newer false o h = refl
+
+  read_now : (s.table == 0) ≡ false → gives slots s e ≡ true → list_with (get (tables w) s) (uid_of e) ≡ list_bytes form (added form (list_of form before) (uid_of e))
+  read_now t g = ap (λ o. list_with o (uid_of e)) (get_tables w s) ∙ at (list_any (gives slots s) w.events) refl
+    where
+      at : (b : Bool) → list_any (gives slots s) w.events ≡ b → list_with (cond b (Some (content_at w s)) (find slot_cmp s (meta_cells w))) (uid_of e) ≡ list_bytes form (added form (list_of form before) (uid_of e))
+      at true h =
+          ap (λ c. list_after (uid_of e) (list_read (cond c [] (list_bytes form (list_of form before))))) t
+          ∙ ap (list_after (uid_of e)) (read_again tell w s t has h form)
+      at false h =
+          let two : form ≡ Two = newer (set.contains w.old s) refl h in
+          let none : before ≡ [] = ap (map uid_of) (filter_none (gives slots s) w.events h) in
+          ap (λ o. list_with o (uid_of e)) (no_meta g)
+          ∙ sym (ap (λ us. list_bytes form (added form (list_of form us) (uid_of e))) none ∙ ap (λ f. list_bytes f (added f (list_of f []) (uid_of e))) two)
+
+  content_given : gives slots s e ≡ true → content_at (with_event w e) s ≡ grown s (get (tables w) s) (uid_of e)
+  content_given g = at (s.table == 0) refl
+    where
+      at : (b : Bool) → (s.table == 0) ≡ b → cond b [] (list_bytes form (list_of form (map uid_of (givers slots more s)))) ≡ cond b [] (list_with (get (tables w) s) (uid_of e))
+      at true t = refl
+      at false t = ap (list_bytes form) (list_now t g) ∙ sym (read_now t g)
+
+  content_other : gives slots s e ≡ false → content_at (with_event w e) s ≡ content_at w s
+  content_other g = ap (λ ds. cond (s.table == 0) [] (list_bytes form (list_of form (map uid_of ds)))) (givers_more ∙ ap (λ b. cond b (insert_entry place_cmp (givers slots w.events s) e.0 e.1) (givers slots w.events s)) g)
+
+  -- with one event more the slots that it gives have it, and no other slot changes
+  pub one_more : get (tables (with_event w e)) s ≡ cond (gives slots s e) (Some (grown s (get (tables w) s) (uid_of e))) (get (tables w) s)
+  one_more =
+      get_tables (with_event w e) s
+      ∙ ap (λ b. cond b (Some (content_at (with_event w e) s)) (find slot_cmp s (meta_cells w))) (any_inserted place_cmp (gives slots s) w.events e.0 e.1 fresh)
+      ∙ at (gives slots s e) refl
+    where
+      at : (b : Bool) → gives slots s e ≡ b → cond (b || list_any (gives slots s) w.events) (Some (content_at (with_event w e) s)) (find slot_cmp s (meta_cells w)) ≡ cond b (Some (grown s (get (tables w) s) (uid_of e))) (get (tables w) s)
+      at true g = ap (λ c. Some c) (content_given g)
+      at false g = ap (λ c. cond (list_any (gives slots s) w.events) (Some c) (find slot_cmp s (meta_cells w))) (content_other g) ∙ sym (get_tables w s)

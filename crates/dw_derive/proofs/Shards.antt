@@ -1,15 +1,85 @@
--- On the names of shards.
-use Rattle.std.proofs.Common.{◌≡◌, ◌<◌, ◌&&◌, ◌==◌, ℕ, zero, suc, Bool, true, false, not, cond, List, [], ◌∷◌, ◌++◌, take, refl, sym, ap, ◌∙◌, arith, IsTrue, decimal}
+-- On the names of shards, which hold no byte 0.
+use Rattle.std.proofs.Common.{◌≡◌, ◌<◌, ◌≤◌, ◌^◌, ◌&&◌, ◌==◌, ℕ, zero, suc, Bool, true, false, not, List, [], ◌∷◌, ◌++◌, take, length, nat_le, refl, sym, ap, ◌∙◌, arith, decimal}
+use Rattle.std.specs.Prelude.{IsTrue}
 use Rattle.std.specs.List.{list_all}
 use Rattle.std.specs.Char.{is_ascii_digit}
+use Rattle.std.specs.Str.Parse.{AllDigits}
 use Rattle.std.proofs.lemmas.Bool.Decides.{nat_tests}
-use Rattle.dw_base.specs.Days.{names_day}
+use Rattle.std.proofs.lemmas.Fmt.{decimal_is_IsNumeral}
+use Rattle.dw_key.specs.TypeName.{is_type_name}
+use Rattle.dw_base.specs.Days.{names_day, is_day}
+use Rattle.dw_base.specs.declared.limits.TheConstants.{MAX_CELLS, MAX_CANONICAL}
+use Rattle.dw_event.specs.declared.records.Record.{Record}
 use Rattle.dw_event.specs.Names.{lacks_zero}
+use Rattle.dw_event.specs.Records.{is_cell, canon, keeps_rules}
 use Rattle.dw_event.specs.Take.{Event}
-use Rattle.dw_derive.specs.Lawful.{IsEvent}
+use Rattle.dw_derive.specs.Lawful.{record_of, IsEvent}
+
+pub left : (a b : Bool) → (a && b) ≡ true → a ≡ true
+left true b h = refl
+left false b h = h
+
+pub right : (a b : Bool) → (a && b) ≡ true → b ≡ true
+right true b h = h
+right false b h = cc
 
 digit_is_not_zero : (b : ℕ) → is_ascii_digit b ≡ true → not (b == 0) ≡ true
-digit_is_not_zero b h = ?
+digit_is_not_zero zero h = cc
+digit_is_not_zero (suc n) h = grind (arith, nat_tests)
+
+-- digits hold no byte 0
+digits_lack : (ds : List ℕ) → list_all is_ascii_digit ds ≡ true → lacks_zero ds ≡ true
+digits_lack [] h = refl
+digits_lack (d ∷ ds) h =
+    ap (λ b. b && lacks_zero ds) (digit_is_not_zero d (left (is_ascii_digit d) (list_all is_ascii_digit ds) h))
+    ∙ digits_lack ds (right (is_ascii_digit d) (list_all is_ascii_digit ds) h)
+
+pub lacks-append : (a b : List ℕ) → lacks_zero a ≡ true → lacks_zero b ≡ true → lacks_zero (a ++ b) ≡ true
+lacks-append [] b h k = k
+lacks-append (x ∷ a) b h k = at (not (x == 0)) h (lacks-append a b)
+  where
+    at : (t : Bool) → (t && lacks_zero a) ≡ true → (lacks_zero a ≡ true → lacks_zero b ≡ true → lacks_zero (a ++ b) ≡ true) → (t && lacks_zero (a ++ b)) ≡ true
+    at true h r = r h k
+    at false h r = h
+
+-- ---- the rules of an event
+
+-- the rules of a record, one by one
+pub record KeepsRules (r : Record) : Type 0 where
+  pub dtype : is_type_name r.dtype ≡ true
+  pub date : names_day r.date ≡ true
+  pub some : nat_le 1 (length r.cells) ≡ true
+  pub cells : list_all is_cell r.cells ≡ true
+
+pub rules_of : (r : Record) → keeps_rules r ≡ true → KeepsRules r
+rules_of r h =
+    let a = is_type_name r.dtype in
+    let b = names_day r.date in
+    let c = nat_le 1 (length r.cells) in
+    let d = nat_le (length r.cells) MAX_CELLS in
+    let e = list_all is_cell r.cells in
+    let f = nat_le (length (canon r)) MAX_CANONICAL in
+    let five : (a && b && c && d && e) ≡ true = left (a && b && c && d && e) f h in
+    let four : (a && b && c && d) ≡ true = left (a && b && c && d) e five in
+    let three : (a && b && c) ≡ true = left (a && b && c) d four in
+    let two : (a && b) ≡ true = left (a && b) c three in
+    record { dtype = left a b two; date = right a b two; some = right (a && b) c three; cells = right (a && b && c && d) e five }
+
+day_lacks : (date : List ℕ) → names_day date ≡ true → lacks_zero date ≡ true
+day_lacks date h = digits_lack date (right (length date == 8) (list_all is_ascii_digit date) (left ((length date == 8) && list_all is_ascii_digit date) _ h))
+
+numeral_lacks : (ds : List ℕ) → AllDigits 10 ds → lacks_zero ds ≡ true
+numeral_lacks [] h = refl
+numeral_lacks (zero ∷ ds) h = absurd (omega arith)
+numeral_lacks (suc n ∷ ds) h = ap (λ b. b && lacks_zero ds) (above n) ∙ numeral_lacks ds h.1
+  where
+    above : (m : ℕ) → not (suc m == 0) ≡ true
+    above m = grind (arith, nat_tests)
+
+number_lacks : (n : ℕ) → n < 16 → lacks_zero (decimal n) ≡ true
+number_lacks n h = numeral_lacks (decimal n) (decimal_is_IsNumeral n (omega arith)).0.1
 
 pub shard_lacks : (e : Event) → IsEvent e → lacks_zero e.0.shard ≡ true
-shard_lacks e h = ?
+shard_lacks e h =
+    let rules : KeepsRules (record_of e) = rules_of (record_of e) h.rules.rules in
+    ap lacks_zero h.shard.spelled ∙ lacks-append (take 8 e.0.shard) (95 ∷ decimal h.number) (day_lacks (take 8 e.0.shard) rules.date) (number_lacks h.number h.shard.below)
