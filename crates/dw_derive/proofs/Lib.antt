@@ -7,3 +7,4 @@ pub mod Spellings
 pub mod Orders
 pub mod Shards
 pub mod Growing
+pub mod Stepping
