@@ -8,3 +8,4 @@ pub mod Orders
 pub mod Shards
 pub mod Growing
 pub mod Stepping
+pub mod Decoding

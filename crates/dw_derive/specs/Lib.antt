@@ -6,3 +6,5 @@ pub mod World
 pub mod Tables
 pub mod Lawful
 pub mod Laws
+pub mod Decoded
+pub mod Documents
