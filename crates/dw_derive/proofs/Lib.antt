@@ -1,2 +1,3 @@
 pub mod UidListLemmas
 pub mod Spellings
+pub mod ReaderLemmas

@@ -4,3 +4,4 @@ pub mod UidLists
 pub mod Meta
 pub mod World
 pub mod Tables
+pub mod KeyFields
