@@ -4,6 +4,7 @@ pub mod Sets
 pub mod Given
 pub mod UidListLemmas
 pub mod Spellings
+pub mod ReaderLemmas
 pub mod Orders
 pub mod Shards
 pub mod Growing

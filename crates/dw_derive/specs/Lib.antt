@@ -1,5 +1,6 @@
 pub mod Entries
 pub mod Readers
+pub mod KeyFields
 pub mod UidLists
 pub mod Meta
 pub mod World

@@ -64,9 +64,13 @@ pub record IndexReading : Type 0 where
   pub value : List ℕ
   pub doc : DocKey
 
--- the field of a family `fi`, 0, F
+-- F of the two parts of a family
 abbrev pub indexed_field : List ℕ × List ℕ → Option (List ℕ)
 indexed_field parts = only_if (pointwise nat_eq parts.0 field_index && is_utf8 parts.1) parts.1
+
+-- the field of a family `fi`, 0, F
+abbrev pub field_of_family : List ℕ → Option (List ℕ)
+field_of_family family = option_and_then indexed_field (split_at_zero family)
 
 abbrev pub index_parts : Key → List ℕ → List ℕ × List ℕ → Option IndexReading
 index_parts k field parts =
@@ -75,7 +79,7 @@ index_parts k field parts =
 -- the reading of a key with the family `fi`, 0, F and the qualifier v, 0, T, 0, H
 abbrev pub index_reading : Key → Option IndexReading
 index_reading k =
-    option_and_then (λ field. option_and_then (index_parts k field) (split_at_zero k.qualifier)) (option_and_then indexed_field (split_at_zero k.family))
+    option_and_then (λ field. option_and_then (index_parts k field) (split_at_zero k.qualifier)) (field_of_family k.family)
 
 -- ---- cells of the global indexes
 

@@ -4,9 +4,13 @@
 
 mod event_cells;
 mod list_bytes;
+mod readers;
 mod uid_list;
 
 pub use dw_base::OutOfMemory;
 pub use event_cells::{Entry, doc_text, entries};
 pub use list_bytes::{BadList, decode_list, encode_list, lists_have_one_spelling};
+pub use readers::{
+    EventFields, GlobalFields, IndexFields, event_fields, global_fields, index_fields,
+};
 pub use uid_list::{Form, UidList, Uids};
