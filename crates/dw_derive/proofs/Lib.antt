@@ -10,3 +10,4 @@ pub mod Shards
 pub mod Growing
 pub mod Stepping
 pub mod Decoding
+pub mod Reading
