@@ -1,3 +1,4 @@
 pub mod UidListLemmas
 pub mod Spellings
 pub mod ReaderLemmas
+pub mod Rereading

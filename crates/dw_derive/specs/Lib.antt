@@ -5,3 +5,4 @@ pub mod Meta
 pub mod World
 pub mod Tables
 pub mod KeyFields
+pub mod ReaderLaws
