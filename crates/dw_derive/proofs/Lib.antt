@@ -5,9 +5,11 @@ pub mod Given
 pub mod UidListLemmas
 pub mod Spellings
 pub mod ReaderLemmas
+pub mod Rereading
 pub mod Orders
 pub mod Shards
 pub mod Growing
 pub mod Stepping
 pub mod Decoding
 pub mod Reading
+pub mod Documents

@@ -130,7 +130,7 @@ spelled_kept form n bytes l fits h =
     ) in
     subst (Spelled form (0 ∷ n ∷ bytes)) (sym w.same) whole
 
-fits_at : (bytes : List ℕ) → AreBytes bytes → (i : ℕ) → get_or bytes i 0 < 256
+pub fits_at : (bytes : List ℕ) → AreBytes bytes → (i : ℕ) → get_or bytes i 0 < 256
 fits_at [] fits i = lit< tt
 fits_at (b ∷ bytes) fits zero = fits.0
 fits_at (b ∷ bytes) fits (suc i) = fits_at bytes fits.1 i

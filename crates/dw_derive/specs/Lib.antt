@@ -1,6 +1,7 @@
 pub mod Entries
 pub mod Readers
 pub mod KeyFields
+pub mod ReaderLaws
 pub mod UidLists
 pub mod Meta
 pub mod World
@@ -9,4 +10,3 @@ pub mod Lawful
 pub mod Laws
 pub mod Decoded
 pub mod Documents
-pub mod ReaderLaws

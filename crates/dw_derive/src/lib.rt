@@ -4,12 +4,14 @@
 
 mod event_cells;
 mod list_bytes;
+mod reader_laws;
 mod readers;
 mod uid_list;
 
 pub use dw_base::OutOfMemory;
 pub use event_cells::{Entry, doc_text, entries};
 pub use list_bytes::{BadList, decode_list, encode_list, lists_have_one_spelling};
+pub use reader_laws::{event_keys_are_read, field_keys_are_read, global_keys_are_read, rows_never_meet};
 pub use readers::{
     EventFields, GlobalFields, IndexFields, event_fields, global_fields, index_fields,
 };
