@@ -191,7 +191,7 @@ module _ (doc_read : (doc : DocKey) → IsDocKey doc → doc_from (doc_text doc)
 
     module _ (q : EventCell → Bool) where
       -- a slot of the document whose cell passes
-      abbrev hits : Slot → Bool
+      abbrev pub hits : Slot → Bool
       hits s = (s.table == 0) && (is_in_span (document_start p) (document_end p) s.key && option_map_or q (cell_from s.key) false)
 
       none_forward : (e : Event) (c : EventCell) (v : List ℕ) (b : Bool) → list_any hits (map slot_of (cond b (forward_entries e c v) [])) ≡ false
@@ -214,7 +214,7 @@ module _ (doc_read : (doc : DocKey) → IsDocKey doc → doc_from (doc_text doc)
           ∙ ap (λ t. t || list_any hits (map slot_of (cond rule.reversed (backward_entries e c v) []))) (none_forward e c v rule.indexed)
           ∙ none_backward e c v rule.reversed
 
-      any_alike_all : {A : Type 0} (P : A → Type 0) (f g : A → Bool) → ((x : A) → P x → f x ≡ g x) → (xs : List A) → AllByRecursion P xs → list_any f xs ≡ list_any g xs
+      pub any_alike_all : {A : Type 0} (P : A → Type 0) (f g : A → Bool) → ((x : A) → P x → f x ≡ g x) → (xs : List A) → AllByRecursion P xs → list_any f xs ≡ list_any g xs
       any_alike_all P f g h [] all = refl
       any_alike_all P f g h (x ∷ xs) all = ap (λ b. b || list_any f xs) (h x all.0) ∙ ap (λ b. g x || b) (any_alike_all P f g h xs all.1)
 
@@ -243,7 +243,7 @@ module _ (doc_read : (doc : DocKey) → IsDocKey doc → doc_from (doc_text doc)
       doc_of_event e i = let r : KeepsRules (record_of e) = rules_of (record_of e) i.rules.rules in record { dtype = r.dtype; uid = i.uid }
 
       -- among those that an event gives
-      at_event : (dict : Dictionary) (e : Event) → IsEvent e → list_any hits (slots_of dict e) ≡ (is_eq (place_cmp p e.0) && list_any q e.1.cells)
+      pub at_event : (dict : Dictionary) (e : Event) → IsEvent e → list_any hits (slots_of dict e) ≡ (is_eq (place_cmp p e.0) && list_any q e.1.cells)
       at_event dict e i =
           let r : KeepsRules (record_of e) = rules_of (record_of e) i.rules.rules in
           any_mapped hits slot_of (entries_of dict e)
@@ -257,7 +257,7 @@ module _ (doc_read : (doc : DocKey) → IsDocKey doc → doc_from (doc_text doc)
       none_further [] h = refl
       none_further (e ∷ es) h = ap (λ o. (is_eq o && list_any q e.1.cells) || list_any (λ (d : Event). is_eq (place_cmp p d.0) && list_any q d.1.cells) es) h.0 ∙ none_further es h.1
 
-      at_place : (es : List Event) → IsStrictlySortedBy place_cmp (keys_of es)
+      pub at_place : (es : List Event) → IsStrictlySortedBy place_cmp (keys_of es)
           → list_any (λ (e : Event). is_eq (place_cmp p e.0) && list_any q e.1.cells) es ≡ list_any q (option_map_or (λ (h : Held). h.cells) (lookup (is_at (place_cmp p)) es) [])
       at_place [] s = refl
       at_place (e ∷ es) s = at (place_cmp p e.0) refl (at_place es (sorted_tail place_cmp e.0 (keys_of es) s)) (none_further es)
