@@ -2,11 +2,15 @@
 use Rattle.std.proofs.Common.{◌≡◌, ◌↔◌, ◌-◌, ◌^◌, ◌<◌, ◌==◌, ◌++◌, ℕ, zero, suc, Bool, true, false, cond, nat_eq, List, [], ◌∷◌, length, get_or, refl, sym, ap, subst, ◌∙◌, append_assoc, arith}
 use Rattle.std.specs.Prelude.{Option, Some, None}
 use Rattle.std.specs.Option.{option_map, option_and_then}
-use Rattle.std.specs.Int.{w64, from_be_bytes}
+use Rattle.std.specs.Int.{w64, from_be_bytes, to_be_bytes}
 use Rattle.std.proofs.lemmas.Nat.{from_be_bytes-to_be_bytes_8}
 use Rattle.std.proofs.lemmas.Bool.Decides.{nat_tests}
 use Rattle.dw_key.specs.declared.key.Key.{Key}
 use Rattle.dw_key.specs.KeyCode.{escaped, part_code, stamp_code, code, AreBytes}
+use Rattle.std.specs.Prelude.{Result, Ok, Err, MatchResult, min}
+use Rattle.dw_key.specs.KeyFaults.{GivesTheKey}
+use Rattle.dw_key.specs.declared.decoding.BadKey.{BadKey}
+use Rattle.dw_key.specs.declared.decoding.BadKey.TheVariants.{OutOfMemory}
 use Rattle.dw_key.proofs.Stamps.{stamp_of}
 use Rattle.dw_key.proofs.Escapes.{AreBytes-parts}
 use Rattle.dw_derive.specs.Decoded.{with_front, part_from, stamp_from, key_from, CodesAreRead}
@@ -121,3 +125,42 @@ key_back bytes k fit h =
 
 pub codes_are_read : CodesAreRead
 codes_are_read bytes k fit small = (key_back bytes k fit, λ h. ap key_from h ∙ key_of_code k small)
+
+stamp_small : (bytes : List ℕ) (n : ℕ) → stamp_from bytes ≡ Some n → n < 2 ^ 64
+stamp_small bytes n h = at (length bytes == 8) h
+  where
+    at : (t : Bool) → cond t (Some (2 ^ 64 - 1 - from_be_bytes w64 bytes)) None ≡ Some n → n < 2 ^ 64
+    at true e = let q : 2 ^ 64 - 1 - from_be_bytes w64 bytes ≡ n = cc in omega (arith, q)
+    at false e = cc
+
+key_small : (bytes : List ℕ) (k : Key) → key_from bytes ≡ Some k → k.stamp < 2 ^ 64
+key_small bytes k h =
+    let row = and_then_some _ (part_from bytes) k h in
+    let family = and_then_some _ (part_from row.0.1) k row.2 in
+    let qualifier = and_then_some _ (part_from family.0.1) k family.2 in
+    let vis = and_then_some _ (part_from qualifier.0.1) k qualifier.2 in
+    let stamp = map_some _ (stamp_from vis.0.1) k vis.2 in
+    let made : Key = record { row = row.0.0; family = family.0.0; qualifier = qualifier.0.0; vis = vis.0.0; stamp = stamp.0 } in
+    let same : made ≡ k = stamp.2 in
+    let P : Key → Type 0 = λ x. x.stamp < 2 ^ 64 in
+    subst P same (stamp_small vis.0.1 stamp.0 stamp.1)
+
+-- what decodes to no key is read as none
+pub no_key : (bytes : List ℕ) (r : Result Key BadKey) (e : BadKey) → AreBytes bytes → GivesTheKey bytes r → r ≡ Err e → (e ≡ OutOfMemory → ⊥) → None ≡ key_from bytes
+no_key bytes r e fit gives is other = at (key_from bytes) refl
+  where
+    at : (o : Option Key) → key_from bytes ≡ o → None ≡ o
+    at None h = refl
+    at (Some k) h =
+        let P : Result Key BadKey → Type 0 = λ x. MatchResult x (λ found. found ≡ k) (λ f. f ≡ OutOfMemory) in
+        absurd (other (subst P is (gives k (key_small bytes k h) (key_back bytes k fit h))))
+
+-- a key that was decoded has a stamp of 64 bits
+pub key_fits : (bytes : List ℕ) (k : Key) → bytes ≡ code k → GivesTheKey bytes (Ok k) → k.stamp < 2 ^ 64
+key_fits bytes k is gives =
+    let low : Key = record { row = k.row; family = k.family; qualifier = k.qualifier; vis = k.vis; stamp = min k.stamp (2 ^ 64 - 1) } in
+    let same : 2 ^ 64 - 1 - k.stamp ≡ 2 ^ 64 - 1 - min k.stamp (2 ^ 64 - 1) = omega arith in
+    let spelled : code k ≡ code low = ap (λ n. part_code k.row ++ (part_code k.family ++ (part_code k.qualifier ++ (part_code k.vis ++ to_be_bytes w64 n)))) same in
+    let found : k ≡ low = gives low (omega arith) (is ∙ spelled) in
+    let stamp : k.stamp ≡ min k.stamp (2 ^ 64 - 1) = ap (λ (x : Key). x.stamp) found in
+    omega (arith, stamp)

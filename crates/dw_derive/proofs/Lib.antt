@@ -12,4 +12,4 @@ pub mod Growing
 pub mod Stepping
 pub mod Decoding
 pub mod Reading
-pub mod Documents
+pub mod WholeDocuments

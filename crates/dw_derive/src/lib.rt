@@ -2,17 +2,26 @@
 //! say, and the tables of a world.
 #![tactic(auto)]
 
+mod documents;
 mod event_cells;
 mod list_bytes;
 mod reader_laws;
 mod readers;
+mod table_laws;
 mod uid_list;
 
+pub use documents::{cell_of, cells_of, document, document_span, key_of};
 pub use dw_base::OutOfMemory;
 pub use event_cells::{Entry, doc_text, entries};
 pub use list_bytes::{BadList, decode_list, encode_list, lists_have_one_spelling};
-pub use reader_laws::{event_keys_are_read, field_keys_are_read, global_keys_are_read, rows_never_meet};
+pub use reader_laws::{
+    event_keys_are_read, field_keys_are_read, global_keys_are_read, rows_never_meet,
+};
 pub use readers::{
     EventFields, GlobalFields, IndexFields, event_fields, global_fields, index_fields,
+};
+pub use table_laws::{
+    cells_are_given, codes_are_read, documents_are_read, events_are_steps, numbers_are_cells,
+    tables_of_one_more,
 };
 pub use uid_list::{Form, UidList, Uids};
