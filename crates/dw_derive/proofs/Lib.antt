@@ -2,3 +2,4 @@ pub mod UidListLemmas
 pub mod Spellings
 pub mod ReaderLemmas
 pub mod Rereading
+pub mod MetaLemmas

@@ -60,7 +60,7 @@ event_keys e c doc field raw =
     let family = doc_read e.0.key doc in
     let parts = split_there c.field c.raw (no_zeros c.field field.no_zero) in (
       (λ i. option_and_then (λ (d : DocKey). option_and_then (event_parts (event_key e c) d) (parts i)) (family i))
-      ∙ (λ i. only_if (field.utf8 i && raw i) (record { shard = e.0.shard; doc = e.0.key; field = c.field; raw = c.raw })),
+          ∙ (λ i. only_if (field.utf8 i && raw i) (record { shard = e.0.shard; doc = e.0.key; field = c.field; raw = c.raw })),
       λ i. option_and_then (λ (f : List ℕ). option_and_then (index_parts (event_key e c) f) (split_at_zero (zero_joined c.field c.raw))) (no_field e.0.key doc.dtype i),
     )
 
@@ -68,7 +68,7 @@ pub field_keys : FieldKeysAreRead
 field_keys e c value doc field text =
     let parts = split_there value (doc_text e.0.key) (no_zeros value text.no_zero) in (
       (λ i. option_and_then (λ (f : List ℕ). option_and_then (index_parts (field_key e c value) f) (parts i)) (only_if (field i) c.field))
-      ∙ (λ i. if text.utf8 i then option_map (λ (d : DocKey). record { shard = e.0.shard; field = c.field; value = value; doc = d }) (doc_read e.0.key doc i) else None),
+          ∙ (λ i. if text.utf8 i then option_map (λ (d : DocKey). record { shard = e.0.shard; field = c.field; value = value; doc = d }) (doc_read e.0.key doc i) else None),
       refl,
     )
 

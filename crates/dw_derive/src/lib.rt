@@ -4,6 +4,7 @@
 
 mod entries;
 mod list_bytes;
+mod meta;
 mod reader_laws;
 mod readers;
 mod uid_list;
@@ -11,7 +12,10 @@ mod uid_list;
 pub use dw_base::OutOfMemory;
 pub use entries::Entry;
 pub use list_bytes::{BadList, decode_list, encode_list, lists_have_one_spelling};
-pub use reader_laws::{event_keys_are_read, field_keys_are_read, global_keys_are_read, rows_never_meet};
+pub use meta::{commit_cell, field_cell, grant_cell};
+pub use reader_laws::{
+    event_keys_are_read, field_keys_are_read, global_keys_are_read, rows_never_meet,
+};
 pub use readers::{
     EventFields, GlobalFields, IndexFields, event_fields, global_fields, index_fields,
 };
