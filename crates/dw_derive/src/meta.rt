@@ -93,3 +93,6 @@ fn room_of(names: &[Text]) -> usize {
         room.saturating_add(name.as_str().len()).saturating_add(2)
     })
 }
+
+#[cfg(test)]
+mod tests;
