@@ -31,7 +31,9 @@ fn is_doc(doc: &DocKey) -> bool {
 fn keys_of_events_are_read(rt: HostRuntime) -> Result<(), Fail> {
     let alloc = rt.alloc();
     let key = key_of(alloc, b"20240101_0", DOC, b"A\0x\0y")?;
-    let fields = event_fields(&key).ok_or("no event's")?;
+    let Some(fields) = event_fields(&key) else {
+        return Err("no event's".into());
+    };
     assert!(rt; fields.shard == b"20240101_0".as_slice() && is_doc(&fields.doc));
     assert!(rt; fields.field == "A" && fields.raw == "x\0y");
     assert!(rt; index_fields(&key).is_none());
@@ -55,12 +57,16 @@ fn keys_of_indexes_are_read(rt: HostRuntime) -> Result<(), Fail> {
     let mut qualifier = Vec::from_slice(alloc, b"x\0")?;
     qualifier.extend_from_slice(DOC)?;
     let key = key_of(alloc, b"20240101_0", b"fi\0A", &qualifier)?;
-    let fields = index_fields(&key).ok_or("no field index's")?;
+    let Some(fields) = index_fields(&key) else {
+        return Err("no field index's".into());
+    };
     assert!(rt; fields.shard == b"20240101_0".as_slice() && is_doc(&fields.doc));
     assert!(rt; fields.field == "A" && fields.value == "x");
     assert!(rt; event_fields(&key).is_none());
     let key = key_of(alloc, b"x", b"A", b"20240101_0\0lab")?;
-    let fields = global_fields(&key).ok_or("no global index's")?;
+    let Some(fields) = global_fields(&key) else {
+        return Err("no global index's".into());
+    };
     assert!(rt; fields.value == "x" && fields.field == "A");
     assert!(rt; fields.shard == b"20240101_0".as_slice());
     assert!(rt; fields.dtype.as_slice() == b"lab".as_slice());
