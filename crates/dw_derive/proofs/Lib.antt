@@ -6,6 +6,7 @@ pub mod UidListLemmas
 pub mod Spellings
 pub mod ReaderLemmas
 pub mod Rereading
+pub mod MetaLemmas
 pub mod Orders
 pub mod Shards
 pub mod Growing

@@ -1,5 +1,5 @@
 -- Lists of uids, and their bytes.
-use Rattle.std.specs.Prelude.{◌≡◌, ◌↔◌, ◌⊎◌, MatchResult, ℕ, zero, suc, ◌+◌, ◌-◌, ◌*◌, ◌^◌, ◌<◌, ◌≤◌, ◌==◌, Bool, true, ◌&&◌, not, nat_le, nat_lt, min, List, [], ◌∷◌, ◌++◌, length, take, Option, Some, None, Result, Ok, Err, if◌then◌else◌}
+use Rattle.std.specs.Prelude.{◌≡◌, ◌↔◌, ◌⊎◌, ⊤, MatchResult, ℕ, zero, suc, ◌+◌, ◌-◌, ◌*◌, ◌^◌, ◌<◌, ◌≤◌, ◌==◌, Bool, true, ◌&&◌, not, nat_le, nat_lt, min, List, [], ◌∷◌, ◌++◌, length, take, Option, Some, None, Result, Ok, Err, if◌then◌else◌}
 use Rattle.std.specs.List.{AllByRecursion, flat_map}
 use Rattle.std.specs.Simd.{first_chunks}
 use Rattle.std.specs.Int.{w64, to_be_bytes, from_be_bytes}
@@ -52,6 +52,11 @@ list_bytes form (Counted n) = form_byte form ∷ 1 ∷ to_be_bytes w64 n
 pub record IsUid (uid : List ℕ) : Type 0 where
   pub size : length uid ≡ 32
   pub are_bytes : AreBytes uid
+
+-- a list keeps no more uids than the form does
+abbrev pub FitsForm : Form → UidList → Type 0
+FitsForm form (Kept uids) = length uids ≤ cap form
+FitsForm form (Counted n) = ⊤
 
 -- the ranges of a form: 1 uid up to its cap, ascending, or a count above its cap
 abbrev pub IsListOf : Form → UidList → Type 0

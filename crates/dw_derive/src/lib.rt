@@ -5,6 +5,7 @@
 mod documents;
 mod event_cells;
 mod list_bytes;
+mod meta;
 mod reader_laws;
 mod readers;
 mod table_laws;
@@ -14,6 +15,7 @@ pub use documents::{cell_of, cells_of, document, document_span, key_of};
 pub use dw_base::OutOfMemory;
 pub use event_cells::{Entry, doc_text, entries};
 pub use list_bytes::{BadList, decode_list, encode_list, lists_have_one_spelling};
+pub use meta::{commit_cell, field_cell, grant_cell};
 pub use reader_laws::{
     event_keys_are_read, field_keys_are_read, global_keys_are_read, rows_never_meet,
 };

@@ -1,5 +1,5 @@
 ghost use Rattle.std.specs.Prelude.{◌≡◌, ◌≢◌, ◌<◌, length, IfOk, IfErr, IsOk, Ok, Err};
-ghost use Rattle.dw_derive.specs.UidLists.{IsListOf, list_bytes, list_read, body_read, kept_read, counted_read, ascend, ReadsAs, GivesTheList, ListsHaveOneSpelling};
+ghost use Rattle.dw_derive.specs.UidLists.{FitsForm, list_bytes, list_read, body_read, kept_read, counted_read, ascend, ReadsAs, GivesTheList, ListsHaveOneSpelling};
 ghost use Rattle.dw_derive.specs.declared.list_bytes.BadList.TheVariants.{OutOfMemory};
 ghost use Rattle.dw_derive.specs.declared.uid_list.UidList.TheVariants.{Kept, Counted};
 
@@ -33,10 +33,10 @@ impl From<AllocError> for BadList {
     }
 }
 
-/// The bytes of a list that keeps the ranges of the form: the number of the form; then 0, how many uids
+/// The bytes of a list that keeps no more uids than the form does: the number of the form; then 0, how many uids
 /// follow, and these, or 1 and the count in 8 bytes, the highest first.
 pub fn encode_list(alloc: Global, list: &UidList, form: Form) -> Result<Bytes, OutOfMemory>
-    requires { IsListOf form list.now }
+    requires { FitsForm form list.now }
     ensures { IfOk result (λ b. b ≡ list_bytes form list.now) }
 {
     match list {
@@ -158,3 +158,6 @@ fn counted_of(form: Form, bytes: &[u8]) -> Result<(Form, UidList), BadList>
 pub fn lists_have_one_spelling()
     ensures { ListsHaveOneSpelling }
 {}
+
+#[cfg(test)]
+mod tests;

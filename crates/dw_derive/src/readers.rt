@@ -137,3 +137,6 @@ fn doc_from(bytes: &[u8]) -> Option<DocKey>
     let uid = uid_from(digits)?;
     Some(DocKey { dtype, uid })
 }
+
+#[cfg(test)]
+mod tests;
