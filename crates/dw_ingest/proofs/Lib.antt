@@ -1,0 +1,3 @@
+pub mod Lists
+pub mod Over
+pub mod EntryTables
