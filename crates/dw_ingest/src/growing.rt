@@ -5,6 +5,7 @@ ghost use Rattle.dw_outside.specs.Faults.{Rose};
 ghost use Rattle.dw_outside.specs.Tables.{Tables, applied, over};
 ghost use Rattle.dw_outside.specs.declared.keeper_error.KeeperError.{KeeperError};
 ghost use Rattle.dw_derive.specs.Entries.{event_of, entries_of, entry_cmp, slot_of};
+ghost use Rattle.dw_ingest.specs.Fitting.{FitsTables};
 ghost use Rattle.dw_derive.specs.Laws.{list_of_one, list_with, grown, put_of, stepped};
 
 use dw_base::{Bytes, OutOfMemory};
@@ -125,6 +126,7 @@ fn puts_for<K: Keeper>(
 ) -> Result<Vec<Put>, KeeperError>
     requires { All (λ n. n.table ≤ 3) entries.now }
     ensures same { K.told keeper.new ≡ K.told keeper.old }
+    ensures fits { IfOk result (λ v. All (λ p. p.table ≤ 3) v.items) }
     ensures puts { (t : Tables) → K.told keeper.old ≡ Some t → IfOk result (λ v. v.items ≡ list_map (put_of (over batch.now t) uid.now) (list_map slot_of entries.now)) }
     ensures unasked { K.asked keeper.new ≡ K.asked keeper.old }
     ensures counted { K.faults keeper.old ≤ K.faults keeper.new }
@@ -140,7 +142,8 @@ fn puts_for<K: Keeper>(
 }
 
 fn keep(puts: &mut Vec<Put>, put: Put) -> Result<(), OutOfMemory>
-    ensures { OnOk result (puts.new.items ≡ puts.old.items ++ put ∷ []) }
+    ensures kept { OnOk result (puts.new.items ≡ puts.old.items ++ put ∷ []) }
+    ensures fits { All (λ p. p.table ≤ 3) puts.old.items → put.table ≤ 3 → OnOk result (All (λ p. p.table ≤ 3) puts.new.items) }
 {
     puts.push(put)?;
     Ok(())
@@ -156,6 +159,7 @@ pub fn add_event<K: Keeper>(
 ) -> Result<(), KeeperError>
     ensures same { K.told keeper.new ≡ K.told keeper.old }
     ensures batch { (t : Tables) → K.told keeper.old ≡ Some t → OnOk result (over batch.new t ≡ stepped dict.now (event_of event.now) (over batch.old t)) }
+    ensures fits { FitsTables batch.old → OnOk result (FitsTables batch.new) }
     ensures unasked { K.asked keeper.new ≡ K.asked keeper.old }
     ensures counted { K.faults keeper.old ≤ K.faults keeper.new }
     ensures failed { result ≡ Err KeeperError.Failed → Rose (K.faults keeper.old) (K.faults keeper.new) }

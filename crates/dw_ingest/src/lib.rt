@@ -2,6 +2,8 @@
 #![tactic(auto)]
 
 mod growing;
+mod pending;
+mod tally;
 
 
 mod standing;
