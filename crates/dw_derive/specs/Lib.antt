@@ -6,3 +6,4 @@ pub mod World
 pub mod Tables
 pub mod KeyFields
 pub mod ReaderLaws
+pub mod MetaReaders

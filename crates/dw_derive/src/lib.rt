@@ -5,6 +5,7 @@
 mod entries;
 mod list_bytes;
 mod meta;
+mod meta_readers;
 mod reader_laws;
 mod readers;
 mod uid_list;
@@ -13,6 +14,7 @@ pub use dw_base::OutOfMemory;
 pub use entries::Entry;
 pub use list_bytes::{BadList, decode_list, encode_list, lists_have_one_spelling};
 pub use meta::{commit_cell, field_cell, grant_cell};
+pub use meta_readers::commit_number;
 pub use reader_laws::{
     event_keys_are_read, field_keys_are_read, global_keys_are_read, rows_never_meet,
 };
