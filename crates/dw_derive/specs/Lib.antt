@@ -2,8 +2,8 @@ pub mod Entries
 pub mod Readers
 pub mod UidLists
 pub mod Meta
+pub mod MetaReaders
 pub mod World
 pub mod Tables
 pub mod KeyFields
 pub mod ReaderLaws
-pub mod MetaReaders
