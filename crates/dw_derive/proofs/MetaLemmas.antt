@@ -1,5 +1,5 @@
 -- What the cells of table 3 are made from.
-use Rattle.std.proofs.Common.{List, ℕ}
+use Rattle.std.proofs.Common.{List}
 use Rattle.std.specs.Prelude.{All, Contains}
 use Rattle.std.proofs.lemmas.List.Elements.{All-contains, All-contains_itself}
 

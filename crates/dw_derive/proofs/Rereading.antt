@@ -1,24 +1,22 @@
 -- The keys of an event's cells are read back.
-use Rattle.std.proofs.Common.{◌≡◌, ℕ, zero, suc, ◌+◌, ◌*◌, ◌<◌, ◌==◌, Bool, true, false, ◌&&◌, not, List, [], ◌∷◌, ◌++◌, length, Option, Some, None, unwrap_or, Result, Ok, Err, refl, sym, ap, ◌∙◌, subst, arith}
-use Rattle.std.specs.Prelude.{◌≢◌, IsTrue, nat_eq, if◌then◌else◌}
+use Rattle.std.proofs.Common.{◌≡◌, ℕ, zero, suc, ◌<◌, ◌==◌, true, false, ◌&&◌, not, List, [], ◌∷◌, length, Option, Some, None, unwrap_or, refl, sym, ap, ◌∙◌, arith}
+use Rattle.std.specs.Prelude.{IsTrue, nat_eq, if◌then◌else◌}
 use Rattle.std.specs.Option.{option_map, option_and_then}
-use Rattle.std.specs.List.{AllByRecursion, list_all}
+use Rattle.std.specs.List.{AllByRecursion}
 use Rattle.std.specs.Str.{is_utf8}
 use Rattle.std.specs.Cmp.Lexicographic.{pointwise, bytes_decides}
 use Rattle.std.proofs.lemmas.Bool.{and_parts, eq-eqb}
-use Rattle.hex.specs.Hex.{encode_lower, decode_of}
+use Rattle.hex.specs.Hex.{encode_lower}
 use Rattle.hex.proofs.HexLemmas.{decode_of-encode_lower}
 use Rattle.dw_key.specs.declared.key.Key.{Key}
 use Rattle.dw_key.specs.declared.doc_key.DocKey.{DocKey}
 use Rattle.dw_key.specs.TypeName.{is_type_name}
 use Rattle.dw_key.proofs.TypeNames.{type_name_keeps, type_name_no_zero}
 use Rattle.dw_event.specs.Names.{lacks_zero}
-use Rattle.dw_event.specs.declared.cells.EventCell.{EventCell}
-use Rattle.dw_event.specs.Take.{Event}
 use Rattle.dw_derive.specs.UidLists.{IsUid}
 use Rattle.dw_derive.specs.Entries.{zero_joined, doc_text, field_index, event_key, field_key, global_key}
-use Rattle.dw_derive.specs.Readers.{split_at_zero, only_if, uid_given, uid_from, doc_of, doc_from, event_parts, event_reading, indexed_field, field_of_family, index_parts, index_reading, global_parts, global_reading}
-use Rattle.dw_derive.specs.ReaderLaws.{IsDocKey, IsPlainText, EventKeysAreRead, FieldKeysAreRead, GlobalKeysAreRead, RowsNeverMeet}
+use Rattle.dw_derive.specs.Readers.{split_at_zero, only_if, uid_given, uid_from, doc_of, doc_from, event_parts, indexed_field, field_of_family, index_parts, global_parts}
+use Rattle.dw_derive.specs.ReaderLaws.{IsDocKey, EventKeysAreRead, FieldKeysAreRead, GlobalKeysAreRead, RowsNeverMeet}
 use Rattle.dw_derive.proofs.Spellings.{fits_at}
 use Rattle.dw_derive.proofs.ReaderLemmas.{false_from}
 

@@ -1,13 +1,11 @@
 -- The bytes of a list are read back as that list, and no other bytes are.
-use Rattle.std.proofs.Common.{◌≡◌, ℕ, zero, suc, ◌+◌, ◌-◌, ◌*◌, ◌^◌, ◌≤◌, ◌<◌, Bool, true, false, List, [], ◌∷◌, ◌++◌, length, take, drop, get_or, Result, Ok, Err, refl, sym, ap, ◌∙◌, subst, arith, lit<}
-use Rattle.std.specs.Prelude.{◌↔◌}
+use Rattle.std.proofs.Common.{◌≡◌, ℕ, zero, suc, ◌*◌, ◌≤◌, ◌<◌, true, List, [], ◌∷◌, ◌++◌, length, take, drop, get_or, Result, Ok, refl, sym, ap, ◌∙◌, subst, arith, lit<}
 use Rattle.std.specs.List.{AllByRecursion, flat_map}
 use Rattle.std.specs.Simd.{first_chunks}
 use Rattle.std.specs.Int.{w64, to_be_bytes, from_be_bytes}
 use Rattle.std.proofs.lemmas.Bool.Decides.{nat_tests}
 use Rattle.std.proofs.lemmas.List.{take-append-drop, take_all, length-append, length-take, length-drop}
 use Rattle.std.proofs.lemmas.Nat.{from_be_bytes-to_be_bytes_8, be_bytes_8}
-use Rattle.dw_base.specs.Ascending.{IsAscending}
 use Rattle.dw_key.specs.KeyCode.{AreBytes}
 use Rattle.dw_key.proofs.Escapes.{AreBytes-parts}
 use Rattle.dw_derive.specs.declared.uid_list.Form.{Form}
@@ -15,7 +13,7 @@ use Rattle.dw_derive.specs.declared.uid_list.Form.TheVariants.{One, Two}
 use Rattle.dw_derive.specs.declared.uid_list.UidList.{UidList}
 use Rattle.dw_derive.specs.declared.uid_list.UidList.TheVariants.{Kept, Counted}
 use Rattle.dw_derive.specs.declared.list_bytes.BadList.{BadList}
-use Rattle.dw_derive.specs.UidLists.{uid_cmp, cap, largest_count, ascend, form_byte, list_bytes, IsUid, IsListOf, kept_read, counted_read, body_read, list_read, ListsHaveOneSpelling}
+use Rattle.dw_derive.specs.UidLists.{cap, largest_count, ascend, form_byte, list_bytes, IsUid, IsListOf, kept_read, counted_read, body_read, list_read, ListsHaveOneSpelling}
 use Rattle.dw_derive.proofs.UidListLemmas.{length-first_chunks, is_ascending, ascend-of, kept}
 
 -- ---- uids one after another

@@ -1,23 +1,20 @@
 -- Lists of uids: that they ascend, and that their bytes are read back.
-use Rattle.std.proofs.Common.{◌≡◌, ◌⊎◌, ℕ, zero, suc, ◌+◌, ◌≤◌, ◌<◌, ◌*◌, Result, Ok, Err, Bool, true, false, ◌&&◌, List, [], ◌∷◌, ◌++◌, length, take, get_or, refl, sym, ap, ◌∙◌, inl, inr, arith}
-use Rattle.std.specs.Prelude.{◌≢◌, IsOk, IfOk, IfErr}
+use Rattle.std.proofs.Common.{◌≡◌, ℕ, zero, suc, ◌+◌, ◌≤◌, ◌<◌, ◌*◌, Ok, Err, Bool, true, false, ◌&&◌, List, [], ◌∷◌, length, take, get_or, refl, sym, ap, ◌∙◌, arith}
 use Rattle.std.proofs.lemmas.Bool.{and_parts}
 use Rattle.std.specs.List.{AllByRecursion, IsAllAdjacentAnswer}
 use Rattle.std.specs.Simd.{first_chunks}
 use Rattle.std.specs.List.Sorted.{IsStrictlySortedBy}
-use Rattle.std.specs.Ordering.{nat_cmp, is_lt}
+use Rattle.std.specs.Ordering.{is_lt}
 use Rattle.std.specs.declared.cmp.Ordering.{Ordering}
 use Rattle.std.specs.declared.cmp.Ordering.TheVariants.{Less, Equal, Greater}
-use Rattle.std.specs.Cmp.{IsTotalOrder}
 use Rattle.std.specs.Cmp.Lexicographic.{nat_list_cmp_total}
 use Rattle.dw_base.specs.Ascending.{IsAscending}
 use Rattle.std.proofs.lemmas.Bool.Decides.{nat_tests}
 use Rattle.dw_derive.specs.declared.uid_list.Form.{Form}
-use Rattle.dw_derive.specs.declared.uid_list.UidList.{UidList}
-use Rattle.dw_derive.specs.declared.uid_list.UidList.TheVariants.{Kept, Counted}
+use Rattle.dw_derive.specs.declared.uid_list.UidList.TheVariants.{Kept}
 use Rattle.dw_derive.specs.declared.list_bytes.BadList.{BadList}
-use Rattle.dw_derive.specs.declared.list_bytes.BadList.TheVariants.{Form as FormFault, Cut, Count, Order, Tail, OutOfMemory}
-use Rattle.dw_derive.specs.UidLists.{uid_cmp, cap, ascend_from, ascend, kept_read, list_read, ReadsAs}
+use Rattle.dw_derive.specs.declared.list_bytes.BadList.TheVariants.{Order, Tail}
+use Rattle.dw_derive.specs.UidLists.{uid_cmp, cap, ascend_from, ascend, kept_read, ReadsAs}
 
 -- the first chunks of more of them
 pub take-first_chunks : (n k m : ℕ) (xs : List ℕ) → k ≤ m → take k (first_chunks n m xs) ≡ first_chunks n k xs

@@ -4,6 +4,7 @@ pub mod KeyFields
 pub mod ReaderLaws
 pub mod UidLists
 pub mod Meta
+pub mod MetaReaders
 pub mod World
 pub mod Tables
 pub mod Lawful

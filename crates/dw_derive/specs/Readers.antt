@@ -1,7 +1,6 @@
 -- What keys of the tables 0 to 2 say.
 use Rattle.std.specs.Prelude.{ℕ, zero, suc, ◌==◌, ◌&&◌, nat_eq, Bool, List, [], ◌∷◌, length, Option, Some, None, Result, Ok, Err, if◌then◌else◌}
 use Rattle.std.specs.Option.{option_map, option_and_then}
-use Rattle.std.specs.List.{list_all}
 use Rattle.std.specs.Str.{is_utf8}
 use Rattle.std.specs.Cmp.Lexicographic.{pointwise}
 use Rattle.hex.specs.Hex.{encode_lower, decode_of}
@@ -9,7 +8,6 @@ use Rattle.hex.specs.declared.error.FromHexError.{FromHexError}
 use Rattle.dw_key.specs.declared.key.Key.{Key}
 use Rattle.dw_key.specs.declared.doc_key.DocKey.{DocKey}
 use Rattle.dw_key.specs.TypeName.{is_type_name}
-use Rattle.dw_event.specs.Names.{lacks_zero}
 use Rattle.dw_derive.specs.Entries.{field_index}
 
 -- what stands before the first byte 0, and what behind it

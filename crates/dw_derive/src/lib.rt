@@ -6,6 +6,7 @@ mod documents;
 mod event_cells;
 mod list_bytes;
 mod meta;
+mod meta_readers;
 mod reader_laws;
 mod readers;
 mod table_laws;
@@ -16,6 +17,7 @@ pub use dw_base::OutOfMemory;
 pub use event_cells::{Entry, doc_text, entries};
 pub use list_bytes::{BadList, decode_list, encode_list, lists_have_one_spelling};
 pub use meta::{commit_cell, field_cell, grant_cell};
+pub use meta_readers::commit_number;
 pub use reader_laws::{
     event_keys_are_read, field_keys_are_read, global_keys_are_read, rows_never_meet,
 };

@@ -1,4 +1,4 @@
-use Rattle.std.proofs.Common.{refl, sym, ◌∙◌}
+use Rattle.std.proofs.Common.{sym, ◌∙◌}
 use Rattle.dw_derive.proofs.ReaderLemmas.{no_split, a_split}
 use Rattle.dw_derive.proofs.readers.split_at_zero.Goals as goal
 
