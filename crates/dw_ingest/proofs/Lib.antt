@@ -1,3 +1,5 @@
 pub mod Lists
 pub mod Over
 pub mod EntryTables
+pub mod Items
+pub mod Steps

@@ -5,4 +5,4 @@ use Rattle.dw_ingest.proofs.EntryTables.{fits_more}
 use Rattle.dw_ingest.proofs.growing.keep.Goals as goal
 
 pub returns-clause-fits : goal.returns-clause-fits
-returns-clause-fits c all low = let P : List Put → Type 0 = All (λ p. p.table ≤ 3) in ?
+returns-clause-fits c all low = let P : List Put → Type 0 = All (λ p. p.table ≤ 3) in subst P (sym c.in_ok-push.ensures.items) (fits_more c.args.puts.now.items c.args.put all low)
