@@ -144,7 +144,7 @@ key_of_place p k r f =
     ∙ sym (append_assoc (part_code p.shard) (part_code (doc_text p.key)) tail) ∙ ap (λ xs. xs ++ tail) (sym (start_is p)))
     ∙ begins (document_start p) tail
 
-exact_places : CmpEqualImpliesEq place_cmp
+pub exact_places : CmpEqualImpliesEq place_cmp
 exact_places a b h = ap (λ (p : List ℕ × DocKey). record { shard = p.0; key = p.1 }) (exact_pairs (slice_cmp nat_cmp) doc_key_cmp exact_bytes doc_keys_exact (a.shard, a.key) (b.shard, b.key) h)
 
 module _ (doc_read : (doc : DocKey) → IsDocKey doc → doc_from (doc_text doc) ≡ Some doc) (event_keys : EventKeysAreRead) where
