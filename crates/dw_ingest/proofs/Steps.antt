@@ -19,6 +19,8 @@ use Rattle.std.proofs.Math.Seq.{take-append_seam}
 use Rattle.std.specs.Char.{is_ascii_digit}
 use Rattle.dw_event.specs.Numbers.{big_endian}
 use Rattle.dw_event.specs.Records.{canon}
+use Rattle.std.specs.FinMap.{empty}
+use Rattle.dw_outside.proofs.Batches.{batches}
 use Rattle.dw_outside.proofs.CellMaps.{tied}
 use Rattle.dw_derive.proofs.Reading.{exact_places}
 use Rattle.dw_base.specs.Days.{names_day}
@@ -33,7 +35,7 @@ use Rattle.dw_event.specs.declared.reports.BadRecord.{BadRecord}
 use Rattle.dw_event.specs.Cells.{cells_eq}
 use Rattle.dw_event.specs.Places.{place_of, place_cmp, shard_number}
 use Rattle.dw_event.specs.Records.{IsWellFormed}
-use Rattle.dw_event.specs.Take.{Event, Taken, held_at, with_held, with_record}
+use Rattle.dw_event.specs.Take.{Event, Taken, held_at, none_taken, with_held, with_record}
 use Rattle.dw_outside.specs.Tables.{Tables, over}
 use Rattle.dw_outside.specs.declared.slot.Slot.{Slot}
 use Rattle.dw_derive.specs.UidLists.{IsUid}
@@ -270,3 +272,15 @@ going_new steps digest w so_far t p q rec place number going event is standing b
     or_cond : (b : Bool) (h : Held) (a o : Option Held) → cond b (Some h) (option_or a o) ≡ option_or (cond b (Some h) a) o
     or_cond true h a o = refl
     or_cond false h a o = refl
+
+-- before the first record
+pub going_first : (w : World) (t : Tables) (p : Pending) → HasEvents w → t ≡ tables w → p.batch ≡ empty → p.news.entries ≡ [] → p.tally ≡ record { at = 0; added = 0; repeat = 0; bad = [] } → Going w (none_taken w.events) t p
+going_first w t p has is batch news tally = record {
+  at = ap (λ (x : Tally). x.at) tally;
+  added = ap (λ (x : Tally). x.added) tally;
+  repeat = ap (λ (x : Tally). x.repeat) tally;
+  bad = ap (λ (x : Tally). x.bad) tally;
+  held = λ q. sym (ap (λ es. option_or (lookup (is_at (place_cmp q)) es) (held_at w.events q)) news);
+  tables = ap (λ m. over m t) batch ∙ batches.none t ∙ is;
+  events = has;
+}

@@ -1,3 +1,5 @@
 pub mod Standing
 pub mod Fitting
 pub mod Going
+pub mod Errors
+pub mod Ingested

@@ -141,7 +141,7 @@ fn puts_for<K: Keeper>(
     Ok(puts)
 }
 
-fn keep(puts: &mut Vec<Put>, put: Put) -> Result<(), OutOfMemory>
+pub fn keep(puts: &mut Vec<Put>, put: Put) -> Result<(), OutOfMemory>
     ensures kept { OnOk result (puts.new.items ≡ puts.old.items ++ put ∷ []) }
     ensures fits { All (λ p. p.table ≤ 3) puts.old.items → put.table ≤ 3 → OnOk result (All (λ p. p.table ≤ 3) puts.new.items) }
 {

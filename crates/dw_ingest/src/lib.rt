@@ -2,11 +2,10 @@
 #![tactic(auto)]
 
 mod growing;
+mod ingesting;
 mod pending;
+mod standing;
 mod tally;
 
-
-mod standing;
-
 pub use dw_base::OutOfMemory;
-
+pub use ingesting::{IngestError, LAST_BATCH, ingest};
