@@ -3,3 +3,4 @@ pub mod Over
 pub mod EntryTables
 pub mod Items
 pub mod Steps
+pub mod Ending

@@ -99,8 +99,14 @@ pub fn ingest<K: Keeper, U: UidMaker>(
     ensures fault { result ≡ Err IngestError.StoreFault → Rose (K.faults keeper.old) (K.faults keeper.new) }
 {
     numbers_are_cells();
-    let Pending { batch, news, tally } =
-        take_records(alloc, keeper, uids, dict, last + 1, records)?;
+    let Pending { batch, news, tally } = take_records(
+        alloc,
+        keeper,
+        uids,
+        dict,
+        last + 1,
+        records,
+    )?;
     drop(news);
     if tally.added == 0 {
         return Ok(tally.report(last));

@@ -66,11 +66,7 @@ fn uid_is_whole(uid: &Uid)
     are_bytes(uid.as_slice());
 }
 
-fn keep_new(
-    news: &mut BTreeMap<Place, Held>,
-    place: Place,
-    held: Held,
-) -> Result<(), OutOfMemory>
+fn keep_new(news: &mut BTreeMap<Place, Held>, place: Place, held: Held) -> Result<(), OutOfMemory>
     ensures { OnOk result (news.new.entries ≡ insert_entry place_cmp news.old.entries place held) }
 {
     news.insert(place, held)?;

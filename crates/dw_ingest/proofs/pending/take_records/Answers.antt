@@ -36,11 +36,12 @@ loop-rec-preserved g c =
       same = ens.same ∙ c.loop-rec.invariant.same;
       going = λ w t told is dict has all.
           let so = c.loop-rec.invariant.going w t told is dict has all in
-          let well : AreWellFormed (item ∷ drop (i + 1) records) = subst AreWellFormed next so.2 in
-          (with_record g.U.UidMaker.digest c.args.number so.0 item,
-          ens.going w so.0 t (c.loop-rec.invariant.same ∙ told) is dict has well.0 so.1,
-          well.1,
-          sym (ap (with_records g.U.UidMaker.digest c.args.number so.0) next) ∙ so.3);
+          let well : AreWellFormed (item ∷ drop (i + 1) records) = subst AreWellFormed next so.2 in (
+            with_record g.U.UidMaker.digest c.args.number so.0 item,
+            ens.going w so.0 t (c.loop-rec.invariant.same ∙ told) is dict has well.0 so.1,
+            well.1,
+            sym (ap (with_records g.U.UidMaker.digest c.args.number so.0) next) ∙ so.3,
+          );
       fits = ens.fits c.loop-rec.invariant.fits;
       unasked = ens.unasked ∙ c.loop-rec.invariant.unasked;
       counted = (let a = ens.counted in let b = c.loop-rec.invariant.counted in omega (arith, a, b));
