@@ -4,3 +4,6 @@ pub mod Moved
 pub mod Memory
 pub mod Doors
 pub mod Streams
+pub mod Disks
+pub mod MemoryDisks
+pub mod DiskStands

@@ -4,9 +4,12 @@
 #![tactic(auto)]
 
 mod again;
+mod disk;
 mod door;
+mod file_disk;
 mod keeper_error;
 mod link;
+mod mem_disk;
 mod mem_door;
 mod mem_link;
 mod mem_sink;
@@ -17,9 +20,12 @@ mod tcp_door;
 mod tcp_link;
 mod traits;
 
+pub use disk::Disk;
 pub use door::Door;
+pub use file_disk::FileDisk;
 pub use keeper_error::KeeperError;
 pub use link::{Link, put_all};
+pub use mem_disk::{Leave, MemDisk, Step};
 pub use mem_door::MemDoor;
 pub use mem_link::MemLink;
 pub use mem_sink::MemSink;
@@ -31,5 +37,7 @@ pub use tcp_door::TcpDoor;
 pub use tcp_link::TcpLink;
 pub use traits::{Failed, Sink, Source};
 
+#[cfg(test)]
+mod disk_tests;
 #[cfg(test)]
 mod tests;
