@@ -7,3 +7,9 @@ pub mod Streams
 pub mod Disks
 pub mod MemoryDisks
 pub mod DiskStands
+pub mod Tables
+pub mod Reads
+pub mod Spans
+pub mod TableLaws
+pub mod Undo
+pub mod MemoryKeeper

@@ -1,7 +1,7 @@
 use Rattle.std.proofs.Common.{◌≡◌, ◌-◌, ◌∙◌, length, take, drop, ap, arith, length-drop}
 use Rattle.std.proofs.lemmas.Grind.{common_steps}
 use Rattle.std.specs.Io.KnownBytes.{append_known}
-use Rattle.dw_outside.proofs.Put.{append_next}
+use Rattle.dw_outside.proofs.Pieces.{append_next}
 use Rattle.dw_outside.proofs.link.put_all.Goals as goal
 
 pub loop-at-preserved : goal.loop-at-preserved
