@@ -43,7 +43,7 @@ pub use slot::Slot;
 pub use std::alloc::AllocError as OutOfMemory;
 pub use std_input::StdInput;
 pub use std_output::StdOutput;
-pub use store::Store;
+pub use store::{Store, Undo};
 pub use table_laws::{batches_are_tables, one_key_is_read, prefixes_are_spans};
 pub use tcp_door::TcpDoor;
 pub use tcp_link::TcpLink;
