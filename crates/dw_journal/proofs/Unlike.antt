@@ -49,3 +49,24 @@ one_reading ones bs file (inl short) (inr holds) = short.1 ∙ sym (no_batch bs 
 one_reading ones bs file (inr holds) (inl short) = no_batch ones file short.0 holds ∙ sym short.1
 one_reading ones bs file (inr holds) (inr also) =
     same_batches ones bs holds.frames.gate also.frames.gate holds.frames.rest also.frames.rest holds.lawful also.lawful holds.frames.closed also.frames.closed (sym holds.frames.split ∙ also.frames.split)
+
+abbrev pub NoFrame : List ℕ → Type 0
+NoFrame rest = (puts : List Put) (gate : ℕ) (more : List ℕ) → IsBatch puts → rest ≡ frame_of puts ++ gate ∷ more → ⊥
+
+bad_places : (ones others : List (List Put)) (r q : List ℕ) → Each IsBatch ones → Each IsBatch others → open_frames (frames_of ones) ++ 1 ∷ r ≡ open_frames (frames_of others) ++ 1 ∷ q → NoFrame r → NoFrame q
+    → length (open_frames (frames_of ones)) ≡ length (open_frames (frames_of others))
+bad_places [] [] r q lawful too is none also = refl
+bad_places [] (b ∷ bs) r q lawful too is none also =
+    let next = next_gate (frames_of bs) 1 q in
+    absurd (none b next.0 next.1 too.0 (sym (behind (frame_of b) (frames_of bs) (1 ∷ q) r (sym is)) ∙ ap (λ (l : List ℕ). frame_of b ++ l) next.2))
+bad_places (a ∷ ones) [] r q lawful too is none also =
+    let next = next_gate (frames_of ones) 1 r in
+    absurd (also a next.0 next.1 lawful.0 (sym (behind (frame_of a) (frames_of ones) (1 ∷ r) q is) ∙ ap (λ (l : List ℕ). frame_of a ++ l) next.2))
+bad_places (a ∷ ones) (b ∷ bs) r q lawful too is none also =
+    let both = behind (frame_of a) (frames_of ones) (1 ∷ r) ((frame_of b ++ open_frames (frames_of bs)) ++ 1 ∷ q) is ∙ append_assoc (frame_of b) (open_frames (frames_of bs)) (1 ∷ q) in
+    let parts = frame_split a b (open_frames (frames_of ones) ++ 1 ∷ r) (open_frames (frames_of bs) ++ 1 ∷ q) lawful.0 too.0 both in
+    let more = bad_places ones bs r q lawful.1 too.1 parts.1 none also in
+    omega (arith, more, ap (λ (p : List Put). length (frame_of p)) parts.0, length-append (frame_of a) (open_frames (frames_of ones)), length-append (frame_of b) (open_frames (frames_of bs)))
+
+pub one_bad_place : (at other : ℕ) (file : List ℕ) → IsBadAt at file → IsBadAt other file → at ≡ other
+one_bad_place at other file bad too = bad.place ∙ bad_places bad.batches too.batches bad.rest too.rest bad.lawful too.lawful (sym bad.split ∙ too.split) bad.none too.none ∙ sym too.place

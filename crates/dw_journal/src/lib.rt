@@ -11,6 +11,12 @@ mod reading;
 mod steps;
 
 pub use keeper::JournalKeeper;
-pub use laws::{batches_are_never_bad, files_are_read_in_one_way, stops_leave_batches};
+pub use laws::{
+    bad_gates_are_one, batches_are_never_bad, files_are_read_in_one_way, moments_are_left,
+    stops_leave_batches,
+};
 pub use open::Unopened;
 pub use open_error::OpenError;
+
+#[cfg(test)]
+mod tests;
