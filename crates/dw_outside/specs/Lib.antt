@@ -4,6 +4,9 @@ pub mod Moved
 pub mod Memory
 pub mod Doors
 pub mod Streams
+pub mod Disks
+pub mod MemoryDisks
+pub mod DiskStands
 pub mod Tables
 pub mod Reads
 pub mod Spans

@@ -41,6 +41,21 @@ struct Before {
     content: Option<Bytes>,
 }
 
+/// What slots had before they were set.
+#[derive(Drop)]
+pub struct Undo {
+    log: Vec<Before>,
+}
+
+impl Model for Undo {
+    ghost use Rattle.std.specs.Prelude.{List, reverse};
+    ghost use Rattle.dw_outside.specs.declared.store.Before.{Before};
+
+    ghost Value = { List Before };
+
+    ghost view = { λ u. reverse u.log.items };
+}
+
 impl Store {
     /// Takes no memory.
     pub fn new(alloc: Global) -> Store
@@ -62,6 +77,17 @@ impl Store {
         ensures ok { OnOk result (self.new ≡ applied puts.now self.old) }
         ensures err { OnErr result (self.new ≡ self.old) }
     {
+        let _undo = self.apply_undoable(alloc, puts)?;
+        Ok(())
+    }
+
+    /// Sets all contents, or none, and says how to take them back.
+    pub fn apply_undoable(&mut self, alloc: Global, puts: &[Put]) -> Result<Undo, OutOfMemory>
+        ensures ok { OnOk result (self.new ≡ applied puts.now self.old) }
+        ensures err { OnErr result (self.new ≡ self.old) }
+        ensures can { IfOk result (λ u. CanUndo u self.new) }
+        ensures back { IfOk result (λ u. undone u self.new ≡ self.old) }
+    {
         let mut log = Vec::with_capacity(alloc, puts.len())?;
         for put in puts {
             if self.apply_one(put, &mut log).is_err() {
@@ -69,7 +95,16 @@ impl Store {
                 return Err(OutOfMemory);
             }
         }
-        Ok(())
+        Ok(Undo { log })
+    }
+
+    /// Takes back what was set. Takes no memory.
+    pub fn take_back(&mut self, undo: Undo)
+        requires { CanUndo undo self.old }
+        ensures { self.new ≡ undone undo self.old }
+    {
+        let Undo { log } = undo;
+        self.undo(log);
     }
 
     /// All that stands in the tables, as puts in the order of their slots.

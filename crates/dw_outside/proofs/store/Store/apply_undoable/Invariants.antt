@@ -2,7 +2,7 @@ use Rattle.std.proofs.Common.{◌≡◌, ◌≤◌, drop, length, vec_len, vec_c
 use Rattle.std.specs.Prelude.{reverse}
 use Rattle.dw_outside.specs.Tables.{applied}
 use Rattle.dw_outside.specs.Undo.{undone, CanUndo}
-use Rattle.dw_outside.proofs.store.Store.apply.Given as goal
+use Rattle.dw_outside.proofs.store.Store.apply_undoable.Given as goal
 
 abbrev pub invariant-loop-put : goal.invariant-loop-put
 invariant-loop-put l = record {

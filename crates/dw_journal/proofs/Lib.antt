@@ -1,0 +1,16 @@
+pub mod Moments
+pub mod Fixed
+pub mod Framing
+pub mod Adding
+pub mod Stops
+pub mod Codes
+pub mod Bodies
+pub mod Results
+pub mod Parsing
+pub mod Batches
+pub mod Opening
+pub mod Keeping
+pub mod Told
+pub mod Unlike
+pub mod Lengths
+pub mod Gates
