@@ -8,7 +8,7 @@ use Rattle.dw_outside.specs.declared.slot.Slot.{Slot}
 use Rattle.dw_outside.specs.declared.store.Before.{Before}
 use Rattle.dw_outside.specs.Tables.{Tables}
 use Rattle.dw_outside.specs.Undo.{restored, undone, CanUndo}
-use Rattle.dw_outside.proofs.CellMaps.{slots_total, restored_same, restored_put}
+use Rattle.dw_outside.proofs.CellMaps.{slots_total, restored_put}
 
 -- a written slot has something
 there : (m : Tables) (k : Slot) (v : List ℕ) → IsSome (get (insert m k v) k)

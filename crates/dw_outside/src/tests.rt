@@ -11,6 +11,8 @@ use std::io::{Cursor, Error, ErrorKind, Read, Write};
 use std::net::{Ipv4Addr, SocketAddr, SocketAddrV4, TcpStream};
 use std::test::Fail;
 
+mod keepers;
+
 #[test]
 fn a_source_gives_pieces_and_fails_at_the_named_call(rt: HostRuntime) -> Result<(), Fail> {
     let alloc = rt.alloc();

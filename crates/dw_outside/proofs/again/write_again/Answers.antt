@@ -1,5 +1,5 @@
 use Rattle.std.proofs.Common.{arith}
-use Rattle.dw_outside.proofs.Kept.{kept_itself, kept_on, kept_written}
+use Rattle.dw_outside.proofs.Kept.{kept_itself, kept_written}
 use Rattle.dw_outside.proofs.again.write_again.Goals as goal
 
 pub loop-turn-init : goal.loop-turn-init
