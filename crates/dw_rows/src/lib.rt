@@ -20,3 +20,6 @@ pub use error::RecordError;
 pub use json_records::from_json;
 pub use members::{is_object_of, object_member, text_member};
 pub use row_records::from_csv;
+
+#[cfg(test)]
+mod tests;
