@@ -4,7 +4,8 @@ use Rattle.serde_json.specs.Find.{as_str}
 use Rattle.serde_json.specs.View.{view, items_view}
 use Rattle.serde_json.specs.declared.value.Value.{Value}
 use Rattle.dw_key.specs.TypeName.{is_type_name}
-use Rattle.dw_wire.specs.ReadLine.{guarded, type_names}
+use Rattle.dw_rows.specs.Values.{guarded}
+use Rattle.dw_wire.specs.ReadLine.{type_names}
 
 -- the name of a type that a value is
 abbrev pub named : Value → Option (List ℕ)

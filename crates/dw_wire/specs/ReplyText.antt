@@ -6,7 +6,7 @@ use Rattle.serde_json.specs.Written.{compact_text}
 use Rattle.hex.specs.Hex.{encode_lower}
 use Rattle.dw_event.specs.declared.views.Pair.{Pair}
 use Rattle.dw_wire.specs.declared.request.Why.{Why}
-use Rattle.dw_wire.specs.declared.request.Why.TheVariants.{Unbuilt, Query, Literal}
+use Rattle.dw_wire.specs.declared.request.Why.TheVariants as why
 use Rattle.dw_jexl.specs.declared.error.QueryRule.{QueryRule}
 use Rattle.dw_jexl.specs.declared.error.QueryRule.TheVariants as rule
 use Rattle.dw_wire.specs.declared.reply.Reply.{Reply}
@@ -87,11 +87,27 @@ query_rule_text rule.Syntax = codes "syntax"
 query_rule_text rule.TooMany = codes "tooMany"
 query_rule_text rule.Pattern = codes "pattern"
 
+-- the member that says why
+abbrev pub why_member : List ℕ → Members
+why_member name = member (codes "why") (word name) no_members
+
 -- the members of a refusal behind the first: a rule, where there is one, and why
 abbrev pub why_members : Why → Members
-why_members Unbuilt = member (codes "why") (word (codes "unbuilt")) no_members
-why_members (Query rule) = member (codes "rule") (word (query_rule_text rule)) (member (codes "why") (word (codes "query")) no_members)
-why_members Literal = member (codes "why") (word (codes "literal")) no_members
+why_members why.Line = why_member (codes "line")
+why_members why.Json = why_member (codes "json")
+why_members why.Shape = why_member (codes "shape")
+why_members why.Caller = why_member (codes "caller")
+why_members why.Field = why_member (codes "field")
+why_members why.Kind = why_member (codes "kind")
+why_members why.Auths = why_member (codes "auths")
+why_members why.Records = why_member (codes "records")
+why_members (why.Query rule) = member (codes "rule") (word (query_rule_text rule)) (why_member (codes "query"))
+why_members why.Days = why_member (codes "days")
+why_members why.Types = why_member (codes "types")
+why_members why.Size = why_member (codes "size")
+why_members why.Number = why_member (codes "number")
+why_members why.Page = why_member (codes "page")
+why_members why.Literal = why_member (codes "literal")
 
 -- what a reply says
 abbrev pub reply_data : Reply → Data

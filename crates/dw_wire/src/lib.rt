@@ -2,6 +2,7 @@
 #![tactic(auto)]
 
 mod laws;
+mod limits;
 mod reading;
 mod records;
 mod reply;
@@ -11,7 +12,8 @@ mod writing;
 pub use dw_base::OutOfMemory;
 pub use dw_jexl::{Query, QueryRule};
 pub use laws::queries_are_spelt;
-pub use reading::{MAX_LINE, read_line};
+pub use limits::MAX_LINE;
+pub use reading::read_line;
 pub use records::Records;
 pub use reply::Reply;
 pub use request::{Request, Why};

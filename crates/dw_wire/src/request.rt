@@ -45,13 +45,37 @@ pub enum Request {
     },
 }
 
-/// Why a line is no request.
+/// Why a line is no request: the first of these, in this order, that holds.
 #[derive(Clone, Copy, Debug, PartialEq, Eq)]
 pub enum Why {
-    /// The line is of no form that is built.
-    Unbuilt,
+    /// The line has more than 4,194,304 bytes.
+    Line,
+    /// The line is no text of JSON, by RFC 8259.
+    Json,
+    /// It is no object of the members of a request, each of its JSON type.
+    Shape,
+    /// The caller is not 1 to 128 visible ASCII characters.
+    Caller,
+    /// The name of the field breaks its rule.
+    Field,
+    /// There is no such kind, or the field is to be reversed without being indexed.
+    Kind,
+    /// A name of an authorisation has not 1 to 512 bytes or a byte 0, or there are more than 256.
+    Auths,
+    /// There are more than 10,000 records.
+    Records,
     /// The text of a query breaks this rule first.
     Query { rule: QueryRule },
+    /// A date names no day, or the first day is after the last.
+    Days,
+    /// A type breaks its rule, or there are not 1 to 64 of them.
+    Types,
+    /// The size of a page is not 1 to 1,000.
+    Size,
+    /// The number of the query is not 1 to 2^63 - 1.
+    Number,
+    /// The number of the page is not 1 to 4,294,967,295.
+    Page,
     /// A literal is refused by the kind of its field, or holds a byte 0, or a wildcard is asked of a field of
     /// numbers, dates or addresses.
     Literal,

@@ -5,7 +5,7 @@ ghost use Rattle.serde_json.specs.Data.{array, boolean, number, object, unsigned
 ghost use Rattle.serde_json.specs.View.{items_of};
 ghost use Rattle.serde_json.specs.Written.{members_outline};
 ghost use Rattle.hex.specs.Hex.{encode_lower};
-ghost use Rattle.dw_wire.specs.ReplyText.{bad_data, bad_data_at, done_data, error_data, fields_data, reply_data, reply_text, query_rule_text, rule_text, shown_data, why_members, word};
+ghost use Rattle.dw_wire.specs.ReplyText.{bad_data, bad_data_at, done_data, error_data, fields_data, reply_data, reply_text, query_rule_text, rule_text, shown_data, why_member, why_members, word};
 ghost use Rattle.dw_wire.specs.ReplyTokens.{Adds, closing, data_tokens, member_tokens, opening};
 
 use crate::OutOfMemory;
@@ -90,20 +90,44 @@ fn query_rule_name(rule: QueryRule) -> &'static str
     }
 }
 
+// The member that says why, and the end of its object.
+fn put_reason(out: &mut Writer, name: &str) -> Result<(), OutOfMemory>
+    ensures { Adds result out.old out.new (members_tokens (members_outline (why_member name.now))) }
+{
+    put_text(out, "why", name)?;
+    out.end_object()?;
+    Ok(())
+}
+
+fn put_query_rule(out: &mut Writer, rule: QueryRule) -> Result<(), OutOfMemory>
+    ensures { Adds result out.old out.new (members_tokens (members_outline (why_members (Why.Query rule)))) }
+{
+    put_text(out, "rule", query_rule_name(rule))?;
+    put_reason(out, "query")?;
+    Ok(())
+}
+
 // The members that say why, and the end of their object.
 fn put_why(out: &mut Writer, why: Why) -> Result<(), OutOfMemory>
     ensures { Adds result out.old out.new (members_tokens (members_outline (why_members why))) }
 {
     match why {
-        Why::Unbuilt => put_text(out, "why", "unbuilt")?,
-        Why::Query { rule } => {
-            put_text(out, "rule", query_rule_name(rule))?;
-            put_text(out, "why", "query")?;
-        }
-        Why::Literal => put_text(out, "why", "literal")?,
+        Why::Line => put_reason(out, "line"),
+        Why::Json => put_reason(out, "json"),
+        Why::Shape => put_reason(out, "shape"),
+        Why::Caller => put_reason(out, "caller"),
+        Why::Field => put_reason(out, "field"),
+        Why::Kind => put_reason(out, "kind"),
+        Why::Auths => put_reason(out, "auths"),
+        Why::Records => put_reason(out, "records"),
+        Why::Query { rule } => put_query_rule(out, rule),
+        Why::Days => put_reason(out, "days"),
+        Why::Types => put_reason(out, "types"),
+        Why::Size => put_reason(out, "size"),
+        Why::Number => put_reason(out, "number"),
+        Why::Page => put_reason(out, "page"),
+        Why::Literal => put_reason(out, "literal"),
     }
-    out.end_object()?;
-    Ok(())
 }
 
 fn put_malformed(out: &mut Writer, why: Why) -> Result<(), OutOfMemory>

@@ -1,19 +1,17 @@
-ghost use Rattle.std.specs.Prelude.{◌≡◌, IfOk, Some, codes, option_map, option_and_then};
+ghost use Rattle.std.specs.Prelude.{◌≡◌, IfOk, Some, option_map, option_and_then};
 ghost use Rattle.serde_json.specs.Find.{as_str};
 ghost use Rattle.serde_json.specs.View.{view, items_view};
 ghost use Rattle.dw_key.specs.TypeName.{is_type_name};
-ghost use Rattle.dw_wire.specs.ReadLine.{guarded, only_of, type_names, types_of};
+ghost use Rattle.dw_rows.specs.Values.{guarded};
+ghost use Rattle.dw_wire.specs.ReadLine.{only_of, type_names, asked_types as asked};
 
 use crate::OutOfMemory;
-use crate::reading::members::list_member;
+use crate::limits::MAX_TYPES;
 use dw_base::Listed;
 use dw_event::Types;
 use dw_key::DType;
 use serde_json::Value;
 use std::alloc::Global;
-
-/// The most types of a list, as they are written.
-const MAX_TYPES: usize = 64;
 
 fn type_of(value: &Value) -> Option<DType>
     ensures { result ≡ option_and_then (λ name. guarded (is_type_name name) (Some name)) (as_str (view value.now)) }
@@ -35,7 +33,7 @@ fn put_types(alloc: Global, items: &[Value]) -> Result<Option<Listed<DType>>, Ou
     Ok(Some(types))
 }
 
-#[tactic(auto, using(crate::proofs::ReadingRecords::counted))]
+#[tactic(auto, using(crate::proofs::Counting::counted))]
 fn read_types(alloc: Global, items: &[Value]) -> Result<Option<Types>, OutOfMemory>
     ensures { IfOk result (λ o. o ≡ only_of (items_view items.now)) }
 {
@@ -48,16 +46,16 @@ fn read_types(alloc: Global, items: &[Value]) -> Result<Option<Types>, OutOfMemo
     }
 }
 
-/// The types that are asked for: those that the member `types` lists, 1 to 64 as they are written, or all
-/// where it is not there. None where it is no such list.
-pub fn asked_types(alloc: Global, value: &Value) -> Result<Option<Types>, OutOfMemory>
-    ensures { IfOk result (λ o. o ≡ types_of (view value.now)) }
+/// The types that are asked for: 1 to 64 that a list of texts names, as they are written, or all where none
+/// is given. None where a name or the list breaks its rule.
+pub fn asked_types(
+    alloc: Global,
+    items: Option<&Vec<Value>>,
+) -> Result<Option<Types>, OutOfMemory>
+    ensures { IfOk result (λ o. o ≡ asked (option_map (λ v. items_view v.now.items) items.entry)) }
 {
-    if value.get("types").is_none() {
-        return Ok(Some(Types::All));
-    }
-    match list_member(value, "types") {
+    match items {
         Some(items) => read_types(alloc, items.as_slice()),
-        None => Ok(None),
+        None => Ok(Some(Types::All)),
     }
 }
