@@ -1,5 +1,5 @@
 -- The records of a batch, one after another.
-use Rattle.std.proofs.Common.{◌≡◌, ℕ, suc, ◌+◌, ◌<◌, List, [], ◌∷◌, ◌++◌, length, map, drop, get_or, drop-cons, arith, refl, sym, ◌∙◌, ap, add-one, append_assoc, nat_le, Option, Some, None, Result}
+use Rattle.std.proofs.Common.{◌≡◌, ℕ, suc, ◌+◌, ◌<◌, List, [], ◌∷◌, ◌++◌, length, map, drop, get_or, drop-cons, arith, refl, sym, ◌∙◌, ap, add-one, append_assoc, None, Result}
 use Rattle.std.proofs.lemmas.Bool.{lt-leb}
 use Rattle.serde_json.specs.View.{view, items_view}
 use Rattle.serde_json.specs.declared.value.Value.{Value}

@@ -1,5 +1,5 @@
 -- How many items a list has.
-use Rattle.std.proofs.Common.{◌≡◌, ℕ, List, [], ◌∷◌, length, arith, refl}
+use Rattle.std.proofs.Common.{◌≡◌, List, [], ◌∷◌, length, arith, refl}
 use Rattle.serde_json.specs.View.{items_view}
 use Rattle.serde_json.specs.declared.value.Value.{Value}
 use Rattle.dw_wire.specs.ReadLine.{items_count}

@@ -1,12 +1,12 @@
 -- The texts and numbers that reading gives keep their rules.
-use Rattle.std.proofs.Common.{◌≡◌, ℕ, suc, ◌+◌, ◌≤◌, true, false, ◌&&◌, nat_le, if◌then◌else◌, List, [], ◌∷◌, length, refl, arith, ap, sym, subst, ◌∙◌, Option, Some, None, IfSome, Ok, option_and_then, option_map}
+use Rattle.std.proofs.Common.{◌≡◌, ℕ, ◌+◌, ◌≤◌, true, ◌&&◌, nat_le, if◌then◌else◌, List, [], ◌∷◌, length, refl, arith, ap, subst, ◌∙◌, Option, Some, None, IfSome, Ok, option_map}
 use Rattle.std.specs.List.{list_all}
 use Rattle.std.specs.Ordering.{nat_cmp, is_le}
 use Rattle.std.specs.Cmp.Lexicographic.{slice_cmp}
 use Rattle.std.specs.Str.{str_to_ascii_uppercase}
 use Rattle.std.proofs.lemmas.Bool.{and_from, le-leb, leb-true}
 use Rattle.std.proofs.lemmas.Cmp.{nat_list_cmp_total}
-use Rattle.serde_json.specs.Data.{Data, Items, no_items, item}
+use Rattle.serde_json.specs.Data.{Items, no_items, item}
 use Rattle.serde_json.specs.Find.{as_str}
 use Rattle.dw_base.specs.Days.{names_day, is_dashed, without_dashes, day_digits}
 use Rattle.dw_base.specs.FieldNames.{is_field_name, is_folded_name}
@@ -15,7 +15,6 @@ use Rattle.dw_event.specs.declared.types.Types.TheVariants.{All, Only}
 use Rattle.dw_jexl.specs.declared.query.Query.{Query}
 use Rattle.dw_key.specs.TypeName.{is_type_name}
 use Rattle.dw_vis.specs.Names.{name_cmp, with_name, IsAscending}
-use Rattle.dw_rows.specs.Values.{guarded}
 use Rattle.dw_rows.specs.Entries.{field_of}
 use Rattle.dw_rows.proofs.KeptSteps.{Gives, nothing, just, guarded_known, guarded_some, then_known, map_known, any_known, all_put, put_few}
 use Rattle.dw_rows.proofs.Folded.{folded}

@@ -18,3 +18,6 @@ pub use records::Records;
 pub use reply::Reply;
 pub use request::{Request, Why};
 pub use writing::{memory_line, write_reply};
+
+#[cfg(test)]
+mod tests;

@@ -15,9 +15,7 @@ use serde_json::Value;
 use std::alloc::Global;
 
 /// A record, or the rule that it breaks, apart from want of memory.
-pub fn of_batch(
-    read: Result<Record, RecordError>,
-) -> Result<Result<Record, BadRecord>, OutOfMemory>
+pub fn of_batch(read: Result<Record, RecordError>) -> Result<Result<Record, BadRecord>, OutOfMemory>
     ensures { IfOk result (λ r. (v : Result Record BadRecord) → Answers read v → r ≡ v) }
 {
     match read {

@@ -48,10 +48,7 @@ fn read_types(alloc: Global, items: &[Value]) -> Result<Option<Types>, OutOfMemo
 
 /// The types that are asked for: 1 to 64 that a list of texts names, as they are written, or all where none
 /// is given. None where a name or the list breaks its rule.
-pub fn asked_types(
-    alloc: Global,
-    items: Option<&Vec<Value>>,
-) -> Result<Option<Types>, OutOfMemory>
+pub fn asked_types(alloc: Global, items: Option<&Vec<Value>>) -> Result<Option<Types>, OutOfMemory>
     ensures { IfOk result (λ o. o ≡ asked (option_map (λ v. items_view v.now.items) items.entry)) }
 {
     match items {
