@@ -1,11 +1,10 @@
 -- The texts and numbers that reading gives keep their rules.
-use Rattle.std.proofs.Common.{◌≡◌, ℕ, suc, ◌+◌, ◌≤◌, true, false, not, ◌&&◌, nat_le, if◌then◌else◌, List, [], ◌∷◌, length, refl, arith, ap, sym, subst, length-append, ◌++◌, ◌∙◌, Option, Some, None, IfSome, is_some, option_and_then, option_map, codes}
+use Rattle.std.proofs.Common.{◌≡◌, ℕ, suc, ◌+◌, ◌≤◌, true, false, not, ◌&&◌, nat_le, if◌then◌else◌, List, [], ◌∷◌, length, refl, arith, ap, sym, subst, length-append, ◌++◌, ◌∙◌, Option, Some, None, IfSome, Ok, is_some, option_and_then, option_map, codes}
 use Rattle.std.specs.List.{list_all, list_any}
 use Rattle.std.specs.Ordering.{nat_cmp, is_le}
 use Rattle.std.specs.Cmp.Lexicographic.{slice_cmp}
 use Rattle.std.specs.Char.{is_ascii_digit, is_ascii_lowercase, to_ascii_uppercase}
-use Rattle.std.specs.Str.{bytes_eq, str_to_ascii_uppercase}
-use Rattle.std.proofs.lemmas.Slice.Eq.{bytes_eq-Decides}
+use Rattle.std.specs.Str.{str_to_ascii_uppercase}
 use Rattle.std.proofs.lemmas.Bool.{and_parts, and_from, or_from, le-leb, leb-true}
 use Rattle.std.proofs.lemmas.Cmp.{nat_list_cmp_total}
 use Rattle.serde_json.specs.Data.{Data, Items, no_items, item}
@@ -13,9 +12,14 @@ use Rattle.serde_json.specs.Find.{get, as_str}
 use Rattle.dw_base.specs.Days.{names_day, is_dashed, without_dashes, day_digits}
 use Rattle.dw_base.specs.FieldNames.{is_word_byte, begins_with_digit, is_field_name, is_folded_name}
 use Rattle.dw_base.proofs.Search.{ascending_none, ascending_with}
+use Rattle.dw_event.specs.declared.types.Types.TheVariants.{All, Only}
+use Rattle.dw_jexl.specs.declared.query.Query.{Query}
+use Rattle.dw_key.specs.TypeName.{is_type_name}
 use Rattle.dw_vis.specs.Names.{name_cmp, with_name, IsAscending}
-use Rattle.dw_wire.specs.ReadLine.{guarded, text_at, array_at, natural_at, number_at, is_caller, caller_of, field_at, is_query_field, is_plain, field_part, literal_part, written_query, query_of_parts, query_of, query_at, days_of, days_at, size_of, is_auth, with_auths, items_count, auths_of, asked_of}
-use Rattle.dw_wire.specs.WellFormed.{IsAuthSet, is_query, are_days, is_counted_to}
+use Rattle.dw_wire.specs.ReadLine.{guarded, text_at, array_at, natural_at, number_at, is_caller, caller_of, field_at, type_names, only_of, types_of, days_of, days_at, size_of, is_auth, with_auths, items_count, auths_of, asked_of}
+use Rattle.dw_wire.specs.WellFormed.{IsAuthSet, IsSpelt, are_days, are_types, is_counted_to}
+use Rattle.dw_wire.specs.QueryTexts.{query_of}
+use Rattle.dw_wire.proofs.QueryLaws.{queries_spelt}
 use Rattle.dw_wire.proofs.KeptSteps.{Gives, nothing, just, guarded_known, guarded_some, then_known, map_known, cond_known, any_known, all_put, put_few}
 
 -- ---- names of fields
@@ -77,31 +81,27 @@ size_known d = cond_known (is_some (get (codes "size") d)) (number_at (codes "si
 
 -- ---- queries
 
--- a query is written as long with its field folded
-as_long : (field literal : List ℕ) → length (written_query (str_to_ascii_uppercase field) literal) ≡ length (written_query field literal)
-as_long field literal =
-    let up : List ℕ = str_to_ascii_uppercase field in
-    let opened : length (up ++ codes " == '") ≡ length (field ++ codes " == '") = same_long up field (codes " == '") (length_upper field) in
-    same_long (up ++ codes " == '" ++ literal) (field ++ codes " == '" ++ literal) (codes "'") (same_long (up ++ codes " == '") (field ++ codes " == '") literal opened)
-  where
-    same_long : (xs ys rest : List ℕ) → length xs ≡ length ys → length (xs ++ rest) ≡ length (ys ++ rest)
-    same_long xs ys rest e = rw (length-append xs rest, length-append ys rest, e) refl
+pub query_known : (text : List ℕ) (q : Query) → query_of text ≡ Ok q → IsSpelt q
+query_known text q e = (text, (queries_spelt text (Ok q)).0 e)
 
-pub query_known : (d : Data) → Gives (query_at d) (λ query. is_query query ≡ true)
-query_known d = then_known (text_at (codes "query") d) query_of (any_known (text_at (codes "query") d)) (λ text _. of_text text (field_part text) (literal_part text))
-  where
-    of_text : (text field literal : List ℕ)
-        → Gives (guarded (nat_le (length text) 16384 && bytes_eq text (written_query field literal)) (query_of_parts field literal)) (λ query. is_query query ≡ true)
-    of_text text field literal = guarded_known (nat_le (length text) 16384 && bytes_eq text (written_query field literal)) (query_of_parts field literal) (λ w.
-        let up : List ℕ = str_to_ascii_uppercase field in
-        let p = and_parts (nat_le (length text) 16384) (bytes_eq text (written_query field literal)) w in
-        let same : text ≡ written_query field literal = (bytes_eq-Decides text (written_query field literal)).0 p.1 in
-        let long : nat_le (length (written_query up literal)) 16384 ≡ true = ap (λ n. nat_le n 16384) (as_long field literal ∙ sym (ap length same)) ∙ p.0 in
-        guarded_some (is_query_field field && is_plain literal) (record { field = up; literal = literal }) (λ h.
-        let a = and_parts (is_query_field field) (is_plain literal) h in
-        let b = and_parts (is_field_name field) _ a.0 in
-        and_from (is_folded_name up && is_plain literal) (nat_le (length (written_query up literal)) 16384)
-        (and_from (is_folded_name up) (is_plain literal) (folded field b.0) a.1) long))
+-- ---- types
+
+names_kept : (ds : Items) → Gives (type_names ds) (λ names. (length names ≡ items_count ds) × (list_all is_type_name names ≡ true))
+names_kept no_items = just [] (refl, refl)
+names_kept (item d ds) =
+    then_known (as_str d) _ (any_known (as_str d)) (λ name _. guarded_known (is_type_name name) _ (λ k.
+    map_known (type_names ds) (λ names. name ∷ names) (names_kept ds) (λ names h. (omega (arith, h.0), and_from (is_type_name name) (list_all is_type_name names) k h.1))))
+
+only_kept : (ds : Items) → Gives (only_of ds) (λ types. are_types types ≡ true)
+only_kept ds =
+    guarded_known (is_counted_to 64 (items_count ds)) (option_map Only (type_names ds)) (λ few.
+    map_known (type_names ds) Only (names_kept ds) (λ names h.
+    and_from (is_counted_to 64 (length names)) (list_all is_type_name names) (ap (is_counted_to 64) h.0 ∙ few) h.1))
+
+pub types_known : (d : Data) → Gives (types_of d) (λ types. are_types types ≡ true)
+types_known d =
+    cond_known (is_some (get (codes "types") d)) (option_and_then only_of (array_at (codes "types") d)) (Some All)
+    (then_known (array_at (codes "types") d) only_of (any_known (array_at (codes "types") d)) (λ ds _. only_kept ds)) (just All refl)
 
 -- ---- days
 

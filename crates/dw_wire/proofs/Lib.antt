@@ -4,7 +4,9 @@ pub mod WritingLists
 pub mod ReadingCells
 pub mod ReadingNames
 pub mod ReadingNumbers
-pub mod ReadingQueries
+pub mod ReadingTypes
+pub mod Tokens
+pub mod QueryLaws
 pub mod ReadingRecords
 pub mod KeptSteps
 pub mod KeptTexts

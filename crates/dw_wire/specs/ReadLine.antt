@@ -18,6 +18,8 @@ use Rattle.dw_event.specs.Names.{lacks_zero, is_raw_value, is_visibility}
 use Rattle.dw_event.specs.declared.cells.EventCell.{EventCell}
 use Rattle.dw_event.specs.declared.records.Record.{Record}
 use Rattle.dw_event.specs.declared.days.Days.{Days}
+use Rattle.dw_event.specs.declared.types.Types.{Types}
+use Rattle.dw_event.specs.declared.types.Types.TheVariants.{All, Only}
 use Rattle.dw_event.specs.declared.reports.BadRecord.{BadRecord}
 use Rattle.dw_event.specs.declared.reports.BadRecord.TheVariants.{Visibility}
 use Rattle.dw_norm.specs.declared.kind.Kind.{Kind}
@@ -27,9 +29,12 @@ use Rattle.dw_dict.specs.declared.rule.FieldRule.{FieldRule}
 use Rattle.dw_wire.specs.declared.reading.gathered.Gathered.{Gathered}
 use Rattle.dw_wire.specs.declared.request.Request.{Request}
 use Rattle.dw_wire.specs.declared.request.Request.TheVariants.{Define, Grant, Ingest, Create, Page, Close}
-use Rattle.dw_wire.specs.declared.request.Query.{Query}
+use Rattle.dw_jexl.specs.declared.error.QueryRule.{QueryRule}
+use Rattle.dw_jexl.specs.declared.query.Query.{Query}
 use Rattle.dw_wire.specs.declared.request.Why.{Why}
+use Rattle.dw_wire.specs.declared.request.Why.TheVariants as why
 use Rattle.dw_wire.specs.declared.request.Why.TheVariants.{Unbuilt}
+use Rattle.dw_wire.specs.QueryTexts.{query_of}
 
 -- the most bytes that a line may have
 abbrev pub max_line : ℕ
@@ -243,49 +248,6 @@ field_at d = option_and_then (λ name. guarded (is_field_name name) (Some (str_t
 
 -- ---- a query
 
--- words of the query language, which are no fields
-abbrev pub query_words : List (List ℕ)
-query_words =
-    codes "and" ∷ codes "or" ∷ codes "not" ∷ codes "eq" ∷ codes "ne" ∷ codes "lt" ∷ codes "le" ∷ codes "gt" ∷ codes "ge"
-    ∷ codes "true" ∷ codes "false" ∷ codes "null" ∷ codes "_Bounded_" ∷ []
-
--- a field of a query
-abbrev pub is_query_field : List ℕ → Bool
-is_query_field name = is_field_name name && not (list_any (λ w. bytes_eq w name) query_words)
-
--- a byte that may stand between quotes: no quote and no backslash
-abbrev pub is_plain_byte : ℕ → Bool
-is_plain_byte b = not (b == 39) && not (b == 92)
-
--- such bytes alone, or none
-abbrev pub is_plain : List ℕ → Bool
-is_plain literal = list_all is_plain_byte literal
-
--- a query as it is written: the field, ` == '`, the literal and a quote
-abbrev pub written_query : List ℕ → List ℕ → List ℕ
-written_query field literal = field ++ codes " == '" ++ literal ++ codes "'"
-
--- the field of a query's text, which the first space ends
-abbrev pub field_part : List ℕ → List ℕ
-field_part text = before_first (λ b. b == 32) text
-
--- the literal of a query's text: all between ` == '` after the field and the last byte
-abbrev pub literal_part : List ℕ → List ℕ
-literal_part text = take (length text - (length (field_part text) + 6)) (drop (length (field_part text) + 5) text)
-
--- the text is written as a query of these parts
-abbrev pub is_written : List ℕ → Bool
-is_written text = bytes_eq text (written_query (field_part text) (literal_part text))
-
--- the query of a field and a literal, where each keeps its rule
-abbrev pub query_of_parts : List ℕ → List ℕ → Option Query
-query_of_parts field literal =
-    guarded (is_query_field field && is_plain literal) (Some (record { field = str_to_ascii_uppercase field; literal = literal }))
-
--- the query that a text of at most 16,384 bytes is
-abbrev pub query_of : List ℕ → Option Query
-query_of text = guarded (nat_le (length text) 16384 && is_written text) (query_of_parts (field_part text) (literal_part text))
-
 -- the days of a query, the first not after the last
 abbrev pub days_of : List ℕ → List ℕ → Option Days
 days_of first last =
@@ -309,9 +271,6 @@ size_of d = if is_some (get (codes "size") d) then number_at (codes "size") 1000
 
 abbrev pub caller_of : Data → Option (List ℕ)
 caller_of d = option_and_then (λ c. guarded (is_caller c) (Some c)) (text_at (codes "caller") d)
-
-abbrev pub query_at : Data → Option Query
-query_at d = option_and_then query_of (text_at (codes "query") d)
 
 abbrev pub days_at : Data → Option Days
 days_at d = option_and_then (λ first. option_and_then (λ last. days_of first last) (text_at (codes "to") d)) (text_at (codes "from") d)
@@ -341,11 +300,44 @@ grant_of d =
     (option_and_then (λ caller. option_map (λ auths. Grant caller auths)
     (option_and_then auths_of (array_at (codes "auths") d))) (caller_of d))
 
-abbrev pub create_of : Data → Option Request
-create_of d =
-    guarded (has_only (codes "op" ∷ codes "caller" ∷ codes "query" ∷ codes "from" ∷ codes "to" ∷ codes "size" ∷ codes "auths" ∷ []) d)
-    (option_and_then (λ caller. option_and_then (λ query. option_and_then (λ days. option_and_then (λ size. option_map (λ asked. Create caller query days size asked)
-    (asked_of d)) (size_of d)) (days_at d)) (query_at d)) (caller_of d))
+-- the names of types that a list has
+abbrev pub type_names : Items → Option (List (List ℕ))
+type_names no_items = Some []
+type_names (item d ds) =
+    option_and_then (λ name. guarded (is_type_name name) (option_map (λ names. name ∷ names) (type_names ds))) (as_str d)
+
+-- the types of a list of 1 to 64 names, as they are written
+abbrev pub only_of : Items → Option Types
+only_of ds = guarded (nat_le 1 (items_count ds) && nat_le (items_count ds) 64) (option_map Only (type_names ds))
+
+-- the types that are asked for, all where none are named
+abbrev pub types_of : Data → Option Types
+types_of d = if is_some (get (codes "types") d) then option_and_then only_of (array_at (codes "types") d) else Some All
+
+-- what a create says before its query is read: who asks, the query's text, and the names that are asked for
+abbrev pub create_parts : Data → Option (List ℕ × List ℕ × Option (List (List ℕ)))
+create_parts d =
+    guarded (has_only (codes "op" ∷ codes "caller" ∷ codes "query" ∷ codes "from" ∷ codes "to" ∷ codes "types" ∷ codes "size" ∷ codes "auths" ∷ []) d)
+    (option_and_then (λ caller. option_and_then (λ text. option_map (λ asked. (caller, text, asked))
+    (asked_of d)) (text_at (codes "query") d)) (caller_of d))
+
+-- the create of a query that was read
+abbrev pub create_of_query : Data → List ℕ → Option (List (List ℕ)) → Query → Option Request
+create_of_query d caller asked query =
+    option_and_then (λ days. option_and_then (λ types. option_map (λ size. Create caller query days types size asked)
+    (size_of d)) (types_of d)) (days_at d)
+
+-- a query that breaks a rule is told before the days, the types and the size
+abbrev pub create_as : Data → List ℕ → Option (List (List ℕ)) → Result Query QueryRule → Result Request Why
+create_as d caller asked (Err rule) = Err (why.Query rule)
+create_as d caller asked (Ok query) = ok_or (create_of_query d caller asked query) Unbuilt
+
+abbrev pub create_from : Data → Option (List ℕ × List ℕ × Option (List (List ℕ))) → Result Request Why
+create_from d None = Err Unbuilt
+create_from d (Some p) = create_as d p.0 p.2 (query_of p.1)
+
+abbrev pub create_of : Data → Result Request Why
+create_of d = create_from d (create_parts d)
 
 -- the number of a query
 abbrev pub query_number : Data → Option ℕ
@@ -362,20 +354,33 @@ close_of d =
     guarded (has_only (codes "op" ∷ codes "caller" ∷ codes "number" ∷ []) d)
     (option_and_then (λ caller. option_map (λ number. Close caller number) (query_number d)) (caller_of d))
 
--- the request of this operation
+-- the request of this operation, any but create
 abbrev pub request_named : List ℕ → Data → Option Request
 request_named op d =
     if bytes_eq op (codes "define") then define_of d
     else if bytes_eq op (codes "grant") then grant_of d
     else if bytes_eq op (codes "ingest") then ingest_of d
-    else if bytes_eq op (codes "create") then create_of d
     else if bytes_eq op (codes "page") then page_of d
     else if bytes_eq op (codes "close") then close_of d
     else None
 
-abbrev pub request_of : Data → Option Request
-request_of d = option_and_then (λ op. request_named op d) (text_at (codes "op") d)
+abbrev pub asked_named : List ℕ → Data → Result Request Why
+asked_named op d = if bytes_eq op (codes "create") then create_of d else ok_or (request_named op d) Unbuilt
 
--- the request that a line is; a line of any other form is not built
+-- what an operation that is named asks, or None where no text names one
+abbrev pub asked_by : Data → Option (List ℕ) → Result Request Why
+asked_by d None = Err Unbuilt
+asked_by d (Some op) = asked_named op d
+
+-- the request that a value is, or why it is none
+abbrev pub request_of : Data → Result Request Why
+request_of d = asked_by d (text_at (codes "op") d)
+
+-- the request that a text in JSON is, where it is one
+abbrev pub request_in : Option Data → Result Request Why
+request_in None = Err Unbuilt
+request_in (Some d) = request_of d
+
+-- the request that a line is, or why it is none; a line of any other form is not built
 unfoldable pub read_line : List ℕ → Result Request Why
-read_line line = ok_or (guarded (nat_le (length line) max_line) (option_and_then request_of (json_of line))) Unbuilt
+read_line line = request_in (guarded (nat_le (length line) max_line) (json_of line))

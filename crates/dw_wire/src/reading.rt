@@ -12,6 +12,7 @@ mod queries;
 mod records;
 mod requests;
 mod texts;
+mod types;
 mod visibilities;
 
 use crate::OutOfMemory;
@@ -48,10 +49,7 @@ fn read(alloc: Global, line: &[u8]) -> Result<Result<Request, Why>, OutOfMemory>
         Some(value) => value,
         None => return Ok(Err(Why::Unbuilt)),
     };
-    match read_request(alloc, &value)? {
-        Some(request) => Ok(Ok(request)),
-        None => Ok(Err(Why::Unbuilt)),
-    }
+    read_request(alloc, &value)
 }
 
 /// The request that a line is, which is well formed, or why it is none. A line of more than 4,194,304 bytes

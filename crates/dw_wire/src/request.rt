@@ -1,10 +1,8 @@
-ghost use Rattle.std.specs.Prelude.{◌≡◌, IfOk};
-
-use crate::OutOfMemory;
 use crate::records::Records;
 use dw_base::Text;
 use dw_dict::FieldRule;
-use dw_event::Days;
+use dw_event::{Days, Types};
+use dw_jexl::{Query, QueryRule};
 use dw_vis::Auths;
 
 /// What a line asks for.
@@ -24,12 +22,13 @@ pub enum Request {
     Ingest {
         records: Records,
     },
-    /// Opens a query of the events that are held now, for the granted names, or for those of them that are
-    /// asked for.
+    /// Opens a query of the events that are held now, of these days and types, for the granted names, or for
+    /// those of them that are asked for.
     Create {
         caller: Text,
         query: Query,
         days: Days,
+        types: Types,
         size: u32,
         auths: Option<Auths>,
     },
@@ -51,24 +50,9 @@ pub enum Request {
 pub enum Why {
     /// The line is of no form that is built.
     Unbuilt,
-    /// A literal is refused by the kind of its field, or holds a byte 0.
+    /// The text of a query breaks this rule first.
+    Query { rule: QueryRule },
+    /// A literal is refused by the kind of its field, or holds a byte 0, or a wildcard is asked of a field of
+    /// numbers, dates or addresses.
     Literal,
-}
-
-/// A query: some visible value of the field is the literal.
-#[derive(Debug, Drop, PartialEq, Eq)]
-pub struct Query {
-    pub field: Text,
-    pub literal: Text,
-}
-
-impl Query {
-    pub fn copy(&self) -> Result<Query, OutOfMemory>
-        ensures { IfOk result (λ q. q ≡ self.now) }
-    {
-        Ok(Query {
-            field: self.field.copy()?,
-            literal: self.literal.copy()?,
-        })
-    }
 }

@@ -5,13 +5,14 @@ ghost use Rattle.serde_json.specs.Data.{array, boolean, number, object, unsigned
 ghost use Rattle.serde_json.specs.View.{items_of};
 ghost use Rattle.serde_json.specs.Written.{members_outline};
 ghost use Rattle.hex.specs.Hex.{encode_lower};
-ghost use Rattle.dw_wire.specs.ReplyText.{bad_data, bad_data_at, done_data, error_data, fields_data, reply_data, reply_text, rule_text, shown_data, why_text, word};
+ghost use Rattle.dw_wire.specs.ReplyText.{bad_data, bad_data_at, done_data, error_data, fields_data, reply_data, reply_text, query_rule_text, rule_text, shown_data, why_members, word};
 ghost use Rattle.dw_wire.specs.ReplyTokens.{Adds, closing, data_tokens, member_tokens, opening};
 
 use crate::OutOfMemory;
 use crate::reply::Reply;
 use crate::request::Why;
 use dw_event::{Bad, BadReason, BadRecord, Pair, Place, Report, Shown};
+use dw_jexl::QueryRule;
 use dw_key::{Bytes, DType, DocKey, Text};
 use json::Writer;
 use std::alloc::Global;
@@ -76,13 +77,33 @@ fn put_error(out: &mut Writer, name: &str) -> Result<(), OutOfMemory>
     Ok(())
 }
 
-fn why_name(why: Why) -> &'static str
-    ensures { result.now ≡ why_text why }
+// The name of a rule on queries.
+fn query_rule_name(rule: QueryRule) -> &'static str
+    ensures { result.now ≡ query_rule_text rule }
+{
+    match rule {
+        QueryRule::TooLong => "tooLong",
+        QueryRule::TooDeep => "tooDeep",
+        QueryRule::Syntax => "syntax",
+        QueryRule::TooMany => "tooMany",
+        QueryRule::Pattern => "pattern",
+    }
+}
+
+// The members that say why, and the end of their object.
+fn put_why(out: &mut Writer, why: Why) -> Result<(), OutOfMemory>
+    ensures { Adds result out.old out.new (members_tokens (members_outline (why_members why))) }
 {
     match why {
-        Why::Unbuilt => "unbuilt",
-        Why::Literal => "literal",
+        Why::Unbuilt => put_text(out, "why", "unbuilt")?,
+        Why::Query { rule } => {
+            put_text(out, "rule", query_rule_name(rule))?;
+            put_text(out, "why", "query")?;
+        }
+        Why::Literal => put_text(out, "why", "literal")?,
     }
+    out.end_object()?;
+    Ok(())
 }
 
 fn put_malformed(out: &mut Writer, why: Why) -> Result<(), OutOfMemory>
@@ -90,8 +111,7 @@ fn put_malformed(out: &mut Writer, why: Why) -> Result<(), OutOfMemory>
 {
     out.begin_object()?;
     put_text(out, "error", "malformed")?;
-    put_text(out, "why", why_name(why))?;
-    out.end_object()?;
+    put_why(out, why)?;
     Ok(())
 }
 

@@ -1,6 +1,7 @@
-ghost use Rattle.std.specs.Prelude.{◌≡◌, ◌≤◌, IfOk, IfSome, option_map};
+ghost use Rattle.std.specs.Prelude.{◌≡◌, ◌≤◌, IfOk, IfSome, ok_or, option_map};
+ghost use Rattle.dw_wire.specs.declared.request.Why.TheVariants.{Unbuilt};
 ghost use Rattle.serde_json.specs.View.{view};
-ghost use Rattle.dw_wire.specs.ReadLine.{ingest_of, size_of, caller_of, query_at, days_at, query_number, define_of, grant_of, create_of, page_of, close_of, request_named, request_of};
+ghost use Rattle.dw_wire.specs.ReadLine.{ingest_of, size_of, caller_of, days_at, query_number, define_of, grant_of, create_parts, create_of_query, create_of, page_of, close_of, request_named, asked_named, request_of};
 
 use crate::OutOfMemory;
 use crate::reading::auths::{asked_auths, member_auths};
@@ -9,9 +10,12 @@ use crate::reading::members::{is_object_of, list_member, number_member, text_mem
 use crate::reading::queries::{read_days, read_query};
 use crate::reading::records::read_batch;
 use crate::reading::texts::names_caller;
-use crate::request::{Query, Request};
+use crate::reading::types::asked_types;
+use crate::request::{Request, Why};
 use dw_event::Days;
+use dw_jexl::Query;
 use dw_key::Text;
+use dw_vis::Auths;
 use serde_json::Value;
 use std::alloc::Global;
 
@@ -64,15 +68,6 @@ fn caller(alloc: Global, value: &Value) -> Result<Option<Text>, OutOfMemory>
     Ok(Some(Text::of(alloc, name)?))
 }
 
-fn query(alloc: Global, value: &Value) -> Result<Option<Query>, OutOfMemory>
-    ensures { IfOk result (λ o. o ≡ query_at (view value.now)) }
-{
-    match text_member(value, "query") {
-        Some(text) => read_query(alloc, text),
-        None => Ok(None),
-    }
-}
-
 fn days(alloc: Global, value: &Value) -> Result<Option<Days>, OutOfMemory>
     ensures { IfOk result (λ o. o ≡ days_at (view value.now)) }
 {
@@ -118,11 +113,18 @@ fn grant(alloc: Global, value: &Value) -> Result<Option<Request>, OutOfMemory>
     }
 }
 
-fn create(alloc: Global, value: &Value) -> Result<Option<Request>, OutOfMemory>
-    ensures { IfOk result (λ o. o ≡ create_of (view value.now)) }
+/// What a create says before its query is read: who asks, the query's text, and the names that are asked
+/// for.
+fn parts_of_create(
+    alloc: Global,
+    value: &Value,
+) -> Result<Option<(Text, Text, Option<Auths>)>, OutOfMemory>
+    ensures { IfOk result (λ o. o ≡ create_parts (view value.now)) }
 {
     if !is_object_of(
-        &["op", "caller", "query", "from", "to", "size", "auths"],
+        &[
+            "op", "caller", "query", "from", "to", "types", "size", "auths",
+        ],
         value,
     ) {
         return Ok(None);
@@ -131,27 +133,62 @@ fn create(alloc: Global, value: &Value) -> Result<Option<Request>, OutOfMemory>
         Some(caller) => caller,
         None => return Ok(None),
     };
-    let query = match query(alloc, value)? {
-        Some(query) => query,
+    let text = match text_member(value, "query") {
+        Some(text) => Text::of(alloc, text)?,
         None => return Ok(None),
     };
+    match asked_auths(alloc, value)? {
+        Some(auths) => Ok(Some((caller, text, auths))),
+        None => Ok(None),
+    }
+}
+
+fn create_of(
+    alloc: Global,
+    value: &Value,
+    caller: Text,
+    auths: Option<Auths>,
+    query: Query,
+) -> Result<Option<Request>, OutOfMemory>
+    ensures { IfOk result (λ o. o ≡ create_of_query (view value.now) caller auths query) }
+{
     let days = match days(alloc, value)? {
         Some(days) => days,
         None => return Ok(None),
     };
-    let size = match page_size(value) {
-        Some(size) => size,
+    let types = match asked_types(alloc, value)? {
+        Some(types) => types,
         None => return Ok(None),
     };
-    match asked_auths(alloc, value)? {
-        Some(auths) => Ok(Some(Request::Create {
+    match page_size(value) {
+        Some(size) => Ok(Some(Request::Create {
             caller,
             query,
             days,
+            types,
             size,
             auths,
         })),
         None => Ok(None),
+    }
+}
+
+/// A request that was read, or that the line is of no form that is built.
+fn built(request: Option<Request>) -> Result<Request, Why>
+    ensures { result ≡ ok_or request Unbuilt }
+{
+    request.ok_or(Why::Unbuilt)
+}
+
+fn create(alloc: Global, value: &Value) -> Result<Result<Request, Why>, OutOfMemory>
+    ensures { IfOk result (λ r. r ≡ create_of (view value.now)) }
+{
+    let Some((caller, text, auths)) = parts_of_create(alloc, value)? else {
+        return Ok(Err(Why::Unbuilt));
+    };
+    match read_query(alloc, text.as_str())? {
+        Ok(query) => Ok(built(create_of(alloc, value, caller, auths, query)?)),
+        Err(rule) => Ok(Err(Why::Query { rule })),
     }
 }
 
@@ -201,6 +238,7 @@ fn close(alloc: Global, value: &Value) -> Result<Option<Request>, OutOfMemory>
     }
 }
 
+/// The request of an operation other than create.
 fn request_of_name(alloc: Global, op: &str, value: &Value) -> Result<Option<Request>, OutOfMemory>
     ensures { IfOk result (λ o. o ≡ request_named op.now (view value.now)) }
 {
@@ -213,9 +251,6 @@ fn request_of_name(alloc: Global, op: &str, value: &Value) -> Result<Option<Requ
     if op == "ingest" {
         return ingest(alloc, value);
     }
-    if op == "create" {
-        return create(alloc, value);
-    }
     if op == "page" {
         return page(alloc, value);
     }
@@ -225,13 +260,26 @@ fn request_of_name(alloc: Global, op: &str, value: &Value) -> Result<Option<Requ
     Ok(None)
 }
 
+fn asked_of_name(
+    alloc: Global,
+    op: &str,
+    value: &Value,
+) -> Result<Result<Request, Why>, OutOfMemory>
+    ensures { IfOk result (λ r. r ≡ asked_named op.now (view value.now)) }
+{
+    if op == "create" {
+        return create(alloc, value);
+    }
+    Ok(built(request_of_name(alloc, op, value)?))
+}
+
 /// The request that a value is: an object whose `op` is the name of an operation, with the members of
-/// that operation and no others. None for any other value.
-pub fn read_request(alloc: Global, value: &Value) -> Result<Option<Request>, OutOfMemory>
-    ensures { IfOk result (λ o. o ≡ request_of (view value.now)) }
+/// that operation and no others. Of any other value why it is none.
+pub fn read_request(alloc: Global, value: &Value) -> Result<Result<Request, Why>, OutOfMemory>
+    ensures { IfOk result (λ r. r ≡ request_of (view value.now)) }
 {
     match text_member(value, "op") {
-        Some(op) => request_of_name(alloc, op, value),
-        None => Ok(None),
+        Some(op) => asked_of_name(alloc, op, value),
+        None => Ok(Err(Why::Unbuilt)),
     }
 }
