@@ -34,6 +34,10 @@ use Rattle.dw_wire.specs.declared.request.Why.{Why}
 use Rattle.dw_wire.specs.declared.request.Why.TheVariants as why
 use Rattle.dw_wire.specs.QueryTexts.{query_of}
 
+-- the most bytes that a line may have
+abbrev pub max_line : ℕ
+max_line = MAX_LINE
+
 -- ---- values and members
 
 -- the value that the bytes are, as JSON
@@ -279,4 +283,4 @@ request_of d = needed why.Shape (text_at (codes "op") d) (λ op. request_named o
 
 -- the request that a line is, or the first reason that holds why it is none
 unfoldable pub read_line : List ℕ → Result Request Why
-read_line line = if nat_le (length line) MAX_LINE then needed why.Json (json_of line) request_of else Err why.Line
+read_line line = if nat_le (length line) max_line then needed why.Json (json_of line) request_of else Err why.Line
