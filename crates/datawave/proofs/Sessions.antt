@@ -5,22 +5,22 @@ use Rattle.std.proofs.lemmas.List.Folds.{concat-append}
 use Rattle.std.proofs.lemmas.List.{map-append}
 use Rattle.std.specs.Io.KnownBytes.{append_known, prepend_known}
 use Rattle.dw_wire.specs.ReadLine.{read_line}
-use Rattle.dw_desk.specs.World.{World}
+use Rattle.dw_desk.specs.State.{State}
 use Rattle.dw_desk.specs.Session.{Digest, Asked, Session}
 use Rattle.datawave.specs.Session.{requests, AllAnswered, LastLacks, FrontAnswered, SomeAnswered}
 use Rattle.datawave.specs.Exchange.{AnswersLine, LinePut, LineLacks, LinesPut, LinesLack, PartPut}
 
-session_then : (digest : Digest) (w : World) (xs : List Asked) (ts : List (List ℕ)) (ys : List Asked) (us : List (List ℕ)) (mid last : World) (m n : ℕ)
+session_then : (digest : Digest) (w : State) (xs : List Asked) (ts : List (List ℕ)) (ys : List Asked) (us : List (List ℕ)) (mid last : State) (m n : ℕ)
     → Session digest w xs ts mid m → Session digest mid ys us last n → Session digest w (xs ++ ys) (ts ++ us) last (m + n)
 session_then digest w [] [] ys us mid last m n s r =
-    subst (λ (k : ℕ). Session digest w ys us last k) (sym (zero-add n) ∙ ap (λ k. k + n) (sym s.1)) (subst (λ (v : World). Session digest v ys us last n) s.0 r)
+    subst (λ (k : ℕ). Session digest w ys us last k) (sym (zero-add n) ∙ ap (λ k. k + n) (sym s.1)) (subst (λ (v : State). Session digest v ys us last n) s.0 r)
 session_then digest w [] (t ∷ ts) ys us mid last m n s r = absurd s
 session_then digest w (x ∷ xs) [] ys us mid last m n s r = absurd s
 session_then digest w (x ∷ xs) (t ∷ ts) ys us mid last m n s r =
     (s.0, s.1, s.2 + n, s.3, session_then digest s.0 xs ts ys us mid last s.2 n s.4 r, ap (λ k. k + n) s.5 ∙ add_assoc s.1 s.2 n)
 
 -- the requests of one stretch, and then those of another
-answered_then : (digest : Digest) (w mid last : World) (xs ys : List Asked) (a b : List ℕ) (m n : ℕ)
+answered_then : (digest : Digest) (w mid last : State) (xs ys : List Asked) (a b : List ℕ) (m n : ℕ)
     → AllAnswered digest w xs a mid m → AllAnswered digest mid ys b last n → AllAnswered digest w (xs ++ ys) (a ++ b) last (m + n)
 answered_then digest w mid last xs ys a b m n x y = record {
   texts = x.texts ++ y.texts;
@@ -28,7 +28,7 @@ answered_then digest w mid last xs ys a b m n x y = record {
   joined = ap (λ c. c ++ b) x.joined ∙ ap (λ c. concat x.texts ++ c) y.joined ∙ sym (concat-append x.texts y.texts);
 }
 
-lacks_then : (digest : Digest) (w mid : World) (xs ys : List Asked) (a b : List ℕ) (m n : ℕ)
+lacks_then : (digest : Digest) (w mid : State) (xs ys : List Asked) (a b : List ℕ) (m n : ℕ)
     → AllAnswered digest w xs a mid m → LastLacks digest mid ys b n → LastLacks digest w (xs ++ ys) (a ++ b) (m + n)
 lacks_then digest w mid xs ys a b m n x y = record {
   texts = x.texts ++ y.texts;
@@ -41,12 +41,12 @@ lacks_then digest w mid xs ys a b m n x y = record {
       ∙ ap (λ c. c ++ y.part) (sym (concat-append x.texts y.texts));
 }
 
-front_then : (digest : Digest) (w mid : World) (xs ys : List Asked) (a b : List ℕ) (m n : ℕ)
+front_then : (digest : Digest) (w mid : State) (xs ys : List Asked) (a b : List ℕ) (m n : ℕ)
     → AllAnswered digest w xs a mid m → FrontAnswered digest mid ys b n → FrontAnswered digest w (xs ++ ys) (a ++ b) (m + n)
 front_then digest w mid xs ys a b m n x (inl y) = inl (y.0, answered_then digest w mid y.0 xs ys a b m n x y.1)
 front_then digest w mid xs ys a b m n x (inr y) = inr (lacks_then digest w mid xs ys a b m n x y)
 
-some_then : (digest : Digest) (w mid : World) (xs ys : List Asked) (a b : List ℕ) (m n : ℕ)
+some_then : (digest : Digest) (w mid : State) (xs ys : List Asked) (a b : List ℕ) (m n : ℕ)
     → AllAnswered digest w xs a mid m → SomeAnswered digest mid ys b n → SomeAnswered digest w (xs ++ ys) (a ++ b) (m + n)
 some_then digest w mid xs ys a b m n x y = record {
   front = xs ++ y.front;
@@ -56,7 +56,7 @@ some_then digest w mid xs ys a b m n x y = record {
 }
 
 -- requests that follow and were not answered
-some_more : (digest : Digest) (w : World) (xs ys : List Asked) (a : List ℕ) (m : ℕ) → SomeAnswered digest w xs a m → SomeAnswered digest w (xs ++ ys) a m
+some_more : (digest : Digest) (w : State) (xs ys : List Asked) (a : List ℕ) (m : ℕ) → SomeAnswered digest w xs a m → SomeAnswered digest w (xs ++ ys) a m
 some_more digest w xs ys a m x = record {
   front = x.front;
   rest = x.rest ++ ys;
@@ -64,16 +64,16 @@ some_more digest w xs ys a m x = record {
   answered = x.answered;
 }
 
-pub some_all : (digest : Digest) (w last : World) (xs : List Asked) (a : List ℕ) (m : ℕ) → AllAnswered digest w xs a last m → SomeAnswered digest w xs a m
+pub some_all : (digest : Digest) (w last : State) (xs : List Asked) (a : List ℕ) (m : ℕ) → AllAnswered digest w xs a last m → SomeAnswered digest w xs a m
 some_all digest w last xs a m x = record { front = xs; rest = []; split = sym (append-nil xs); answered = inl (last, x) }
 
-pub answered_none : (digest : Digest) (w : World) → AllAnswered digest w [] [] w 0
+pub answered_none : (digest : Digest) (w : State) → AllAnswered digest w [] [] w 0
 answered_none digest w = record { texts = []; session = (refl, refl); joined = refl }
 
-answered_one : (digest : Digest) (w next : World) (line text : List ℕ) → AnswersLine digest w line text next → AllAnswered digest w (requests (line ∷ [])) text next 0
+answered_one : (digest : Digest) (w next : State) (line text : List ℕ) → AnswersLine digest w line text next → AllAnswered digest w (requests (line ∷ [])) text next 0
 answered_one digest w next line text h = record { texts = text ∷ []; session = (next, 0, 0, h, (refl, refl), refl); joined = sym (append-nil text) }
 
-lacks_one : (digest : Digest) (w next : World) (line part missing : List ℕ) → AnswersLine digest w line (part ++ missing) next → SomeAnswered digest w (requests (line ∷ [])) part 0
+lacks_one : (digest : Digest) (w next : State) (line part missing : List ℕ) → AnswersLine digest w line (part ++ missing) next → SomeAnswered digest w (requests (line ∷ [])) part 0
 lacks_one digest w next line part missing h = record {
   front = requests (line ∷ []);
   rest = [];
@@ -103,10 +103,10 @@ prepend_nothing (Some xs) = refl
 both_ask : (xs ys : List (List ℕ)) → requests xs ++ requests ys ≡ requests (xs ++ ys)
 both_ask xs ys = sym (map-append read_line xs ys)
 
-pub put_none : (digest : Digest) (w : World) (out : Option (List ℕ)) → LinesPut digest w out [] w out
+pub put_none : (digest : Digest) (w : State) (out : Option (List ℕ)) → LinesPut digest w out [] w out
 put_none digest w out = record { written = []; answered = answered_none digest w; output = known_nothing out }
 
-pub put_then : (digest : Digest) (w mid last : World) (out between after : Option (List ℕ)) (xs ys : List (List ℕ))
+pub put_then : (digest : Digest) (w mid last : State) (out between after : Option (List ℕ)) (xs ys : List (List ℕ))
     → LinesPut digest w out xs mid between → LinesPut digest mid between ys last after → LinesPut digest w out (xs ++ ys) last after
 put_then digest w mid last out between after xs ys x y = record {
   written = x.written ++ y.written;
@@ -115,7 +115,7 @@ put_then digest w mid last out between after xs ys x y = record {
   output = y.output ∙ ap (λ o. append_known o y.written) x.output ∙ known_then out x.written y.written;
 }
 
-pub lack_then : (digest : Digest) (w mid : World) (out between after : Option (List ℕ)) (xs ys : List (List ℕ))
+pub lack_then : (digest : Digest) (w mid : State) (out between after : Option (List ℕ)) (xs ys : List (List ℕ))
     → LinesPut digest w out xs mid between → LinesLack digest mid between ys after → LinesLack digest w out (xs ++ ys) after
 lack_then digest w mid out between after xs ys x y = record {
   written = x.written ++ y.written;
@@ -124,20 +124,20 @@ lack_then digest w mid out between after xs ys x y = record {
   output = y.output ∙ ap (λ o. append_known o y.written) x.output ∙ known_then out x.written y.written;
 }
 
-pub lack_more : (digest : Digest) (w : World) (out after : Option (List ℕ)) (xs ys : List (List ℕ)) → LinesLack digest w out xs after → LinesLack digest w out (xs ++ ys) after
+pub lack_more : (digest : Digest) (w : State) (out after : Option (List ℕ)) (xs ys : List (List ℕ)) → LinesLack digest w out xs after → LinesLack digest w out (xs ++ ys) after
 lack_more digest w out after xs ys x = record {
   written = x.written;
   answered = subst (λ (rs : List Asked). SomeAnswered digest w rs x.written 0) (both_ask xs ys) (some_more digest w (requests xs) (requests ys) x.written 0 x.answered);
   output = x.output;
 }
 
-pub lack_all : (digest : Digest) (w last : World) (out after : Option (List ℕ)) (xs : List (List ℕ)) → LinesPut digest w out xs last after → LinesLack digest w out xs after
+pub lack_all : (digest : Digest) (w last : State) (out after : Option (List ℕ)) (xs : List (List ℕ)) → LinesPut digest w out xs last after → LinesLack digest w out xs after
 lack_all digest w last out after xs x = record { written = x.written; answered = some_all digest w last (requests xs) x.written 0 x.answered; output = x.output }
 
-pub put_one : (digest : Digest) (w next : World) (out after : Option (List ℕ)) (line : List ℕ) → LinePut digest w out line next after → LinesPut digest w out (line ∷ []) next after
+pub put_one : (digest : Digest) (w next : State) (out after : Option (List ℕ)) (line : List ℕ) → LinePut digest w out line next after → LinesPut digest w out (line ∷ []) next after
 put_one digest w next out after line x = record { written = x.text; answered = answered_one digest w next line x.text x.answers; output = x.output }
 
-pub lack_one : (digest : Digest) (w : World) (out after : Option (List ℕ)) (line : List ℕ) → LineLacks digest w out line after → LinesLack digest w out (line ∷ []) after
+pub lack_one : (digest : Digest) (w : State) (out after : Option (List ℕ)) (line : List ℕ) → LineLacks digest w out line after → LinesLack digest w out (line ∷ []) after
 lack_one digest w out after line x = record { written = x.part; answered = lacks_one digest w x.next line x.part x.missing x.answers; output = x.output }
 
 -- ---- a text that is put in parts

@@ -5,7 +5,7 @@ use Rattle.std.specs.Io.KnownBytes.{append_known, prepend_known, IsAtEnd}
 use Rattle.datawave.specs.declared.status.Status.{Status}
 use Rattle.datawave.specs.declared.status.Status.TheVariants.{Done, BadWords, ReadFault, WriteFault, OutOfMemory, TooMuch}
 use Rattle.datawave.specs.Lines.{lines, whole_lines}
-use Rattle.dw_desk.specs.World.{World, nothing}
+use Rattle.dw_desk.specs.State.{State, start}
 use Rattle.dw_desk.specs.Session.{Digest, Asked, Session}
 use Rattle.dw_wire.specs.ReadLine.{read_line}
 
@@ -14,26 +14,26 @@ abbrev pub requests : List (List ℕ) → List Asked
 requests ls = map read_line ls
 
 -- the requests were answered, in order, and the bytes are the joined texts of the answers
-pub record AllAnswered (digest : Digest) (w : World) (rs : List Asked) (written : List ℕ) (last : World) (faults : ℕ) : Type 0 where
+pub record AllAnswered (digest : Digest) (w : State) (rs : List Asked) (written : List ℕ) (last : State) (faults : ℕ) : Type 0 where
   pub texts : List (List ℕ)
   pub session : Session digest w rs texts last faults
   pub joined : written ≡ concat texts
 
 -- the same, but the bytes lack an end of the last text, or all of it
-pub record LastLacks (digest : Digest) (w : World) (rs : List Asked) (written : List ℕ) (faults : ℕ) : Type 0 where
+pub record LastLacks (digest : Digest) (w : State) (rs : List Asked) (written : List ℕ) (faults : ℕ) : Type 0 where
   pub texts : List (List ℕ)
   pub part : List ℕ
   pub missing : List ℕ
-  pub last : World
+  pub last : State
   pub session : Session digest w rs (texts ++ (part ++ missing) ∷ []) last faults
   pub joined : written ≡ concat texts ++ part
 
 -- the requests were answered, and at most an end of the last text is lacking
-abbrev pub FrontAnswered : Digest → World → List Asked → List ℕ → ℕ → Type 0
-FrontAnswered digest w rs written faults = ((last : World) × AllAnswered digest w rs written last faults) ⊎ LastLacks digest w rs written faults
+abbrev pub FrontAnswered : Digest → State → List Asked → List ℕ → ℕ → Type 0
+FrontAnswered digest w rs written faults = ((last : State) × AllAnswered digest w rs written last faults) ⊎ LastLacks digest w rs written faults
 
 -- a front of the requests was answered so, and none of those after it
-pub record SomeAnswered (digest : Digest) (w : World) (rs : List Asked) (written : List ℕ) (faults : ℕ) : Type 0 where
+pub record SomeAnswered (digest : Digest) (w : State) (rs : List Asked) (written : List ℕ) (faults : ℕ) : Type 0 where
   pub front : List Asked
   pub rest : List Asked
   pub split : rs ≡ front ++ rest
@@ -45,11 +45,11 @@ max_input = 2 ^ 40
 
 -- what these lines ask for, and nothing else, was answered from the first request on; nothing is stored, so no store fails
 abbrev pub Answered : Digest → List (List ℕ) → List ℕ → Type 0
-Answered digest ls written = (last : World) × AllAnswered digest nothing (requests ls) written last 0
+Answered digest ls written = (last : State) × AllAnswered digest start (requests ls) written last 0
 
 -- a front of it was answered so
 abbrev pub PartlyAnswered : Digest → List (List ℕ) → List ℕ → Type 0
-PartlyAnswered digest ls written = SomeAnswered digest nothing (requests ls) written 0
+PartlyAnswered digest ls written = SomeAnswered digest start (requests ls) written 0
 
 -- a run that broke off answered whole lines alone, unless the input had come to its end, where a last piece is a line too
 abbrev pub BrokeOff : Digest → Option (List ℕ) → List ℕ → List ℕ → Type 0

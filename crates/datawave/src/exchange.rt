@@ -4,7 +4,7 @@ ghost use Rattle.dw_outside.specs.Faults.{Rose};
 ghost use Rattle.datawave.specs.Lines.{kept, whole_lines_after, rest_after};
 ghost use Rattle.dw_wire.specs.ReadLine.{read_line as request_on};
 ghost use Rattle.dw_wire.specs.ReplyText.{reply_text};
-ghost use Rattle.dw_desk.specs.Desk.{world_of};
+ghost use Rattle.dw_desk.specs.Desk.{state_of};
 ghost use Rattle.datawave.specs.Exchange.{AnswersLine, LinePut, LineLacks, LinesPut, LinesLack, PartPut};
 ghost use Rattle.datawave.specs.Texts.{text_of};
 
@@ -58,7 +58,7 @@ fn request_of(alloc: Global, line: &Line) -> Result<Result<Request, Why>, OutOfM
 {
     match line.bytes() {
         Some(bytes) => read_line(alloc, bytes),
-        None => Ok(Err(Why::Unbuilt)),
+        None => Ok(Err(Why::Line)),
     }
 }
 
@@ -70,8 +70,8 @@ fn answer_line<U: UidMaker>(
     uids: &U,
     line: &Line,
 ) -> Result<Text, OutOfMemory>
-    ensures text { IfOk result (λ text. (bytes : List ℕ) → line.now ≡ kept bytes → AnswersLine U.digest (world_of desk.old) bytes (text_of text) (world_of desk.new)) }
-    ensures err { OnErr result ((bytes : List ℕ) → line.now ≡ kept bytes → (text : List ℕ) × AnswersLine U.digest (world_of desk.old) bytes text (world_of desk.new)) }
+    ensures text { IfOk result (λ text. (bytes : List ℕ) → line.now ≡ kept bytes → AnswersLine U.digest (state_of desk.old) bytes (text_of text) (state_of desk.new)) }
+    ensures err { OnErr result ((bytes : List ℕ) → line.now ≡ kept bytes → (text : List ℕ) × AnswersLine U.digest (state_of desk.old) bytes text (state_of desk.new)) }
 {
     let request = match request_of(alloc, line) {
         Ok(request) => request,
@@ -117,8 +117,8 @@ pub fn exchange_line<U: UidMaker, O: Sink>(
     line: &Line,
     output: &mut O,
 ) -> Result<(), Broken>
-    ensures put { OnOk result ((bytes : List ℕ) → line.now ≡ kept bytes → LinePut U.digest (world_of desk.old) (O.taken output.old) bytes (world_of desk.new) (O.taken output.new)) }
-    ensures lacks { OnErr result ((bytes : List ℕ) → line.now ≡ kept bytes → LineLacks U.digest (world_of desk.old) (O.taken output.old) bytes (O.taken output.new)) }
+    ensures put { OnOk result ((bytes : List ℕ) → line.now ≡ kept bytes → LinePut U.digest (state_of desk.old) (O.taken output.old) bytes (state_of desk.new) (O.taken output.new)) }
+    ensures lacks { OnErr result ((bytes : List ℕ) → line.now ≡ kept bytes → LineLacks U.digest (state_of desk.old) (O.taken output.old) bytes (O.taken output.new)) }
     ensures counted { O.faults output.old ≤ O.faults output.new }
     ensures failed { result ≡ Err Broken.WriteFault → Rose (O.faults output.old) (O.faults output.new) }
 {
@@ -170,9 +170,9 @@ pub fn exchange_piece<U: UidMaker, O: Sink>(
     piece: &[u8],
     output: &mut O,
 ) -> Result<(), Broken>
-    ensures put { OnOk result ((front : List ℕ) → line.old ≡ kept front → LinesPut U.digest (world_of desk.old) (O.taken output.old) (whole_lines_after front piece.now) (world_of desk.new) (O.taken output.new)) }
+    ensures put { OnOk result ((front : List ℕ) → line.old ≡ kept front → LinesPut U.digest (state_of desk.old) (O.taken output.old) (whole_lines_after front piece.now) (state_of desk.new) (O.taken output.new)) }
     ensures rest { OnOk result ((front : List ℕ) → line.old ≡ kept front → line.new ≡ kept (rest_after front piece.now)) }
-    ensures lacks { OnErr result ((front : List ℕ) → line.old ≡ kept front → LinesLack U.digest (world_of desk.old) (O.taken output.old) (whole_lines_after front piece.now) (O.taken output.new)) }
+    ensures lacks { OnErr result ((front : List ℕ) → line.old ≡ kept front → LinesLack U.digest (state_of desk.old) (O.taken output.old) (whole_lines_after front piece.now) (O.taken output.new)) }
     ensures counted { O.faults output.old ≤ O.faults output.new }
     ensures failed { result ≡ Err Broken.WriteFault → Rose (O.faults output.old) (O.faults output.new) }
 {

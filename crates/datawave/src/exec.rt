@@ -2,7 +2,7 @@ ghost use Rattle.std.specs.Prelude.{◌≡◌, ◌≢◌, ◌≤◌, ◌<◌, �
 ghost use Rattle.std.specs.Io.KnownBytes.{prepend_known, IsAtEnd};
 ghost use Rattle.dw_outside.specs.Faults.{Rose};
 ghost use Rattle.dw_outside.specs.Moved.{done_bytes};
-ghost use Rattle.dw_desk.specs.Desk.{world_of};
+ghost use Rattle.dw_desk.specs.Desk.{state_of};
 ghost use Rattle.datawave.specs.Session.{Runs, max_input};
 ghost use Rattle.datawave.specs.Exchange.{Progress};
 ghost use Rattle.datawave.specs.Statuses.{status_of};
@@ -87,7 +87,7 @@ fn front_of(bytes: &[u8], count: usize) -> &[u8]
 /// Answers the last line, which no line feed ends, where there is one.
 fn finish<O: Sink, U: UidMaker>(alloc: Global, uids: &U, talk: &mut Talk, output: &mut O) -> Status
     ensures runs { (before left out : Option (List ℕ)) → IsAtEnd left → talk.old.total ≤ max_input →
-        Progress U.digest before left out (O.taken output.old) (world_of talk.old.desk) talk.old.line talk.old.total →
+        Progress U.digest before left out (O.taken output.old) (state_of talk.old.desk) talk.old.line talk.old.total →
         Runs U.digest result before left out (O.taken output.new) }
     ensures ends { (result ≢ Status.BadWords) × (result ≢ Status.ReadFault) × (result ≢ Status.TooMuch) }
     ensures counted { O.faults output.old ≤ O.faults output.new }
@@ -115,10 +115,10 @@ fn turn<S: Source, O: Sink, U: UidMaker>(
     requires total { talk.old.total ≤ max_input }
     ensures goes { IfNone result ((talk.old.total < talk.new.total) × (talk.new.total ≤ max_input)) }
     ensures between { IfNone result ((before out : Option (List ℕ)) →
-        Progress U.digest before (S.left input.old) out (O.taken output.old) (world_of talk.old.desk) talk.old.line talk.old.total →
-        Progress U.digest before (S.left input.new) out (O.taken output.new) (world_of talk.new.desk) talk.new.line talk.new.total) }
+        Progress U.digest before (S.left input.old) out (O.taken output.old) (state_of talk.old.desk) talk.old.line talk.old.total →
+        Progress U.digest before (S.left input.new) out (O.taken output.new) (state_of talk.new.desk) talk.new.line talk.new.total) }
     ensures ends { IfSome result (λ status. (before out : Option (List ℕ)) →
-        Progress U.digest before (S.left input.old) out (O.taken output.old) (world_of talk.old.desk) talk.old.line talk.old.total →
+        Progress U.digest before (S.left input.old) out (O.taken output.old) (state_of talk.old.desk) talk.old.line talk.old.total →
         Runs U.digest status before (S.left input.new) out (O.taken output.new)) }
     ensures words { result ≢ Some Status.BadWords }
     ensures taken { S.faults input.old ≤ S.faults input.new }
@@ -157,7 +157,7 @@ fn exchange_all<S: Source, O: Sink, U: UidMaker>(
     requires room { 0 < length buffer.old }
     requires total { talk.old.total ≤ max_input }
     ensures runs { (before out : Option (List ℕ)) →
-        Progress U.digest before (S.left input.old) out (O.taken output.old) (world_of talk.old.desk) talk.old.line talk.old.total →
+        Progress U.digest before (S.left input.old) out (O.taken output.old) (state_of talk.old.desk) talk.old.line talk.old.total →
         Runs U.digest result before (S.left input.new) out (O.taken output.new) }
     ensures words { result ≢ Status.BadWords }
     ensures read_fault { result ≡ Status.ReadFault → Rose (S.faults input.old) (S.faults input.new) }

@@ -13,8 +13,8 @@ use Rattle.std.proofs.lemmas.Cmp.{nat_list_cmp_total}
 use Rattle.std.proofs.lemmas.Map.{lookup-set_value}
 use Rattle.std.proofs.lemmas.Map.Lookups.{exact_bytes}
 use Rattle.dw_desk.specs.declared.caller.Caller.{Caller}
-use Rattle.dw_desk.specs.declared.open_query.OpenQuery.{OpenQuery}
-use Rattle.dw_desk.specs.World.{Account, nobody, at_caller}
+use Rattle.dw_eval.specs.declared.open_query.OpenQuery.{OpenQuery}
+use Rattle.dw_desk.specs.State.{Account, nobody, at_caller}
 use Rattle.dw_desk.specs.Accounts.{account, opened, closed}
 use Rattle.dw_desk.specs.Numbers.{last_number}
 use Rattle.dw_desk.specs.Desk.{account_of, SameAccounts, Changes, Gives}

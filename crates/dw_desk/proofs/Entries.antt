@@ -7,24 +7,22 @@ use Rattle.std.specs.Ordering.{nat_cmp, is_eq}
 use Rattle.std.specs.BTreeMap.{BTreeMap, get, is_at}
 use Rattle.std.specs.Map.{lookup}
 use Rattle.std.proofs.lemmas.Map.Lookups.{exact_unsigned}
-use Rattle.dw_desk.specs.declared.open_query.OpenQuery.{OpenQuery}
-use Rattle.dw_desk.specs.World.{Account, nobody, at_number}
+use Rattle.dw_eval.specs.declared.open_query.OpenQuery.{OpenQuery}
+use Rattle.dw_desk.specs.State.{Account, nobody, at_number}
 use Rattle.dw_desk.specs.Accounts.{closed}
 
 abbrev Queries : Type 0
 Queries = BTreeMap ℕ OpenQuery
 
 -- an account of these parts
-pub account_is : (granted : List (List ℕ)) (given : ℕ) (old new : ℕ → Option OpenQuery) → ((n : ℕ) → new n ≡ old n)
-    → let a : Account = record { granted = granted; given = given; queries = new } in a ≡ record { granted = granted; given = given; queries = old }
-account_is granted given old new h = ap (λ (q : ℕ → Option OpenQuery). record { granted = granted; given = given; queries = q }) (fun_ext h)
+pub account_is : (given : ℕ) (old new : ℕ → Option OpenQuery) → ((n : ℕ) → new n ≡ old n)
+    → let a : Account = record { given = given; queries = new } in a ≡ record { given = given; queries = old }
+account_is given old new h = ap (λ (q : ℕ → Option OpenQuery). record { given = given; queries = q }) (fun_ext h)
 
 -- no query stands in an empty map
-pub none_kept : (granted : List (List ℕ)) (m : Queries) → granted ≡ [] → m.entries ≡ []
-    → let a : Account = record { granted = granted; given = 0; queries = get nat_cmp m } in a ≡ nobody
-none_kept granted m g e =
-    ap (λ (names : List (List ℕ)). record { granted = names; given = 0; queries = get nat_cmp m }) g
-    ∙ account_is [] 0 (λ _. None) (get nat_cmp m) (λ n. ap (lookup (is_at (nat_cmp n))) e)
+pub none_kept : (m : Queries) → m.entries ≡ []
+    → let a : Account = record { given = 0; queries = get nat_cmp m } in a ≡ nobody
+none_kept m e = account_is 0 (λ _. None) (get nat_cmp m) (λ n. ap (lookup (is_at (nat_cmp n))) e)
 
 equal_is : (o : Ordering) → is_eq o ≡ true → o ≡ Equal
 equal_is Less e = cc
@@ -43,4 +41,4 @@ none_dropped number f e = fun_ext (λ q. at_q q (is_at (nat_cmp number) q) refl)
     at_q q false s = refl
 
 pub nobody_closed : (number : ℕ) → closed number nobody ≡ nobody
-nobody_closed number = ap (λ (q : ℕ → Option OpenQuery). record { granted = []; given = 0; queries = q }) (none_dropped number (λ _. None) refl)
+nobody_closed number = ap (λ (q : ℕ → Option OpenQuery). record { given = 0; queries = q }) (none_dropped number (λ _. None) refl)

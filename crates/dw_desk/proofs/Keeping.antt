@@ -13,6 +13,7 @@ use Rattle.dw_event.specs.Places.{place_cmp, place_of}
 use Rattle.dw_event.specs.Cells.{cells_eq}
 use Rattle.dw_event.specs.Texts.{is_same}
 use Rattle.dw_event.specs.declared.days.Days.{Days}
+use Rattle.dw_event.specs.declared.types.Types.{Types}
 use Rattle.dw_event.specs.declared.records.Place.{Place}
 use Rattle.dw_event.specs.declared.records.Record.{Record}
 use Rattle.dw_event.specs.declared.reports.BadRecord.{BadRecord}
@@ -21,13 +22,14 @@ use Rattle.dw_dict.specs.Dictionary.{rule_of}
 use Rattle.dw_dict.specs.declared.rule.FieldRule.{FieldRule}
 use Rattle.dw_wire.specs.declared.request.Request.TheVariants.{Define, Grant, Ingest, Create, Page, Close}
 use Rattle.dw_event.specs.declared.records.Held.{Held}
-use Rattle.dw_desk.specs.declared.open_query.BoundQuery.{BoundQuery}
-use Rattle.dw_desk.specs.declared.open_query.OpenQuery.{OpenQuery}
-use Rattle.dw_desk.specs.Bound.{bound}
+use Rattle.dw_eval.specs.declared.nquery.NQuery.{NQuery}
+use Rattle.dw_eval.specs.declared.open_query.OpenQuery.{OpenQuery}
+use Rattle.dw_eval.specs.Bound.{bound}
+use Rattle.dw_plan.specs.Anchored.{anchored}
 use Rattle.dw_desk.specs.Numbers.{last_number}
 use Rattle.dw_event.specs.Take.{Event}
-use Rattle.dw_desk.specs.World.{Account, World, nothing, at_caller}
-use Rattle.dw_desk.specs.Accounts.{granted, opened, closed}
+use Rattle.dw_desk.specs.State.{Account, State, start, at_caller}
+use Rattle.dw_desk.specs.Accounts.{opened, closed}
 use Rattle.dw_event.specs.Take.{Taken, none_taken, with_held, with_record, with_records, held_at}
 use Rattle.dw_desk.specs.Step.{Outcome, step, asked_for, defined, ingested, created, paged, dropped, query_of}
 use Rattle.dw_desk.specs.Session.{Digest, Asked, Answers, Session}
@@ -118,9 +120,9 @@ takes_records digest batch t (rec ∷ recs) =
 -- ---- batches and numbers
 
 -- what is kept beside the order of the events
-record Holds (w : World) : Type 0 where
-  batches : Upto w.last w.events
-  accounts : (caller : List ℕ) → IsCurrent w.last (w.callers caller)
+record Holds (w : State) : Type 0 where
+  batches : Upto w.world.last w.world.events
+  accounts : (caller : List ℕ) → IsCurrent w.world.last (w.accounts caller)
 
 if_some_weaker : (o : Option OpenQuery) (P Q : OpenQuery → Type 0) → ((q : OpenQuery) → P q → Q q) → IfSome o P → IfSome o Q
 if_some_weaker None P Q f h = tt
@@ -148,90 +150,90 @@ current_closed last n a h number = at (is_at (nat_cmp n) number)
     at true = tt
     at false = h number
 
-either_holds : (b : Bool) (x y : Outcome) → Holds x.world → Holds y.world → Holds (cond b x y).world
+either_holds : (b : Bool) (x y : Outcome) → Holds x.state → Holds y.state → Holds (cond b x y).state
 either_holds true x y h k = h
 either_holds false x y h k = k
 
 -- another account of one caller
-account_holds : (w : World) (caller : List ℕ) (a : Account) → Holds w → IsCurrent w.last a
-    → let next : World = record { events = w.events; last = w.last; dict = w.dict; callers = at_caller caller a w.callers } in Holds next
+account_holds : (w : State) (caller : List ℕ) (a : Account) → Holds w → IsCurrent w.world.last a
+    → let next : State = record { world = w.world; accounts = at_caller caller a w.accounts } in Holds next
 account_holds w caller a h k = record {
   batches = h.batches;
-  accounts = λ q. current_either w.last (is_same caller q) a (w.callers q) k (h.accounts q);
+  accounts = λ q. current_either w.world.last (is_same caller q) a (w.accounts q) k (h.accounts q);
 }
 
-last_at : (b : Bool) (w : World) (t : Taken) → nat_lt 0 t.new ≡ b → Takes (w.last + 1) (none_taken w.events) t → Holds w
-    → let last : ℕ = cond b (w.last + 1) w.last in
-    let next : World = record { events = t.events; last = last; dict = w.dict; callers = w.callers } in Holds next
+last_at : (b : Bool) (w : State) (t : Taken) → nat_lt 0 t.new ≡ b → Takes (w.world.last + 1) (none_taken w.world.events) t → Holds w
+    → let last : ℕ = cond b (w.world.last + 1) w.world.last in
+    let next : State = record { world = record { events = t.events; dict = w.world.dict; grants = w.world.grants; last = last }; accounts = w.accounts } in Holds next
 last_at true w t e x h = record {
-  batches = x.upto (upto_later w.last (w.last + 1) w.events (omega arith) h.batches);
-  accounts = λ caller. current_later w.last (w.last + 1) (w.callers caller) (omega arith) (h.accounts caller);
+  batches = x.upto (upto_later w.world.last (w.world.last + 1) w.world.events (omega arith) h.batches);
+  accounts = λ caller. current_later w.world.last (w.world.last + 1) (w.accounts caller) (omega arith) (h.accounts caller);
 }
 last_at false w t e x h = record {
-  batches = subst (λ (es : List Event). Upto w.last es) (sym (x.same (let few : t.new ≤ 0 = ltb-false 0 t.new e in omega arith))) h.batches;
+  batches = subst (λ (es : List Event). Upto w.world.last es) (sym (x.same (let few : t.new ≤ 0 = ltb-false 0 t.new e in omega arith))) h.batches;
   accounts = h.accounts;
 }
 
-ingested_holds : (w : World) (t : Taken) → Takes (w.last + 1) (none_taken w.events) t → Holds w → Holds (ingested w t).world
-ingested_holds w t x h = either_holds (nat_lt 0 t.new && (w.last == last_number)) _ _ h (last_at (nat_lt 0 t.new) w t refl x h)
+ingested_holds : (w : State) (t : Taken) → Takes (w.world.last + 1) (none_taken w.world.events) t → Holds w → Holds (ingested w t).state
+ingested_holds w t x h = either_holds (nat_lt 0 t.new && (w.world.last == last_number)) _ _ h (last_at (nat_lt 0 t.new) w t refl x h)
 
-define_holds : (w : World) (field : List ℕ) (rule : FieldRule) → Holds w → Holds (defined w field rule).world
-define_holds w field rule h = either_holds ((w.last == 0) || widens rule (rule_of w.dict field)) _ _ (record { batches = h.batches; accounts = h.accounts }) h
+define_holds : (w : State) (field : List ℕ) (rule : FieldRule) → Holds w → Holds (defined w field rule).state
+define_holds w field rule h = either_holds ((w.world.last == 0) || widens rule (rule_of w.world.dict field)) _ _ (record { batches = h.batches; accounts = h.accounts }) h
 
-created_holds : (w : World) (caller : List ℕ) (q : OpenQuery) → q.snapshot ≤ w.last → Holds w → Holds (created w caller q).world
+created_holds : (w : State) (caller : List ℕ) (q : OpenQuery) → q.snapshot ≤ w.world.last → Holds w → Holds (created w caller q).state
 created_holds w caller q l h =
-    either_holds ((w.callers caller).given == last_number) _ _ h
-    (account_holds w caller (opened q (w.callers caller)) h (current_opened w.last q (w.callers caller) l (h.accounts caller)))
+    either_holds ((w.accounts caller).given == last_number) _ _ h
+    (account_holds w caller (opened q (w.accounts caller)) h (current_opened w.world.last q (w.accounts caller) l (h.accounts caller)))
 
-asked_holds : (w : World) (caller : List ℕ) (days : Days) (size : ℕ) (asked : Option (List (List ℕ))) (o : Option BoundQuery) → Holds w → Holds (asked_for w caller days size asked o).world
-asked_holds w caller days size asked None h = h
-asked_holds w caller days size asked (Some q) h = either_holds q.rule.indexed _ _ (created_holds w caller (query_of w caller q days size asked) (le_refl w.last) h) h
+asked_holds : (w : State) (caller : List ℕ) (days : Days) (types : Types) (size : ℕ) (asked : Option (List (List ℕ))) (o : Option NQuery) → Holds w → Holds (asked_for w caller days types size asked o).state
+asked_holds w caller days types size asked None h = h
+asked_holds w caller days types size asked (Some q) h = either_holds (anchored q) _ _ (created_holds w caller (query_of w.world caller q days types size asked) (le_refl w.world.last) h) h
 
-page_holds : (w : World) (page : ℕ) (o : Option OpenQuery) → Holds w → Holds (paged w page o).world
+page_holds : (w : State) (page : ℕ) (o : Option OpenQuery) → Holds w → Holds (paged w page o).state
 page_holds w page None h = h
 page_holds w page (Some q) h = h
 
-drop_holds : (w : World) (caller : List ℕ) (number : ℕ) (o : Option OpenQuery) → Holds w → Holds (dropped w caller number o).world
+drop_holds : (w : State) (caller : List ℕ) (number : ℕ) (o : Option OpenQuery) → Holds w → Holds (dropped w caller number o).state
 drop_holds w caller number None h = h
-drop_holds w caller number (Some q) h = account_holds w caller (closed number (w.callers caller)) h (current_closed w.last number (w.callers caller) (h.accounts caller))
+drop_holds w caller number (Some q) h = account_holds w caller (closed number (w.accounts caller)) h (current_closed w.world.last number (w.accounts caller) (h.accounts caller))
 
-step_holds : (digest : Digest) (w : World) (request : Asked) → Holds w → Holds (step digest w request).world
+step_holds : (digest : Digest) (w : State) (request : Asked) → Holds w → Holds (step digest w request).state
 unfolding step
 step_holds digest w (Err why) h = h
 step_holds digest w (Ok (Define field rule)) h = define_holds w field rule h
-step_holds digest w (Ok (Grant caller names)) h = account_holds w caller (granted names (w.callers caller)) h (h.accounts caller)
-step_holds digest w (Ok (Ingest records)) h = ingested_holds w (with_records digest (w.last + 1) (none_taken w.events) records) (takes_records digest (w.last + 1) (none_taken w.events) records) h
-step_holds digest w (Ok (Create caller query days size asked)) h = asked_holds w caller days size asked (bound w.dict query) h
-step_holds digest w (Ok (Page caller number page)) h = page_holds w page ((w.callers caller).queries number) h
-step_holds digest w (Ok (Close caller number)) h = drop_holds w caller number ((w.callers caller).queries number) h
+step_holds digest w (Ok (Grant caller names)) h = record { batches = h.batches; accounts = h.accounts }
+step_holds digest w (Ok (Ingest records)) h = ingested_holds w (with_records digest (w.world.last + 1) (none_taken w.world.events) records) (takes_records digest (w.world.last + 1) (none_taken w.world.events) records) h
+step_holds digest w (Ok (Create caller query days types size asked)) h = asked_holds w caller days types size asked (bound w.world.dict query) h
+step_holds digest w (Ok (Page caller number page)) h = page_holds w page ((w.accounts caller).queries number) h
+step_holds digest w (Ok (Close caller number)) h = drop_holds w caller number ((w.accounts caller).queries number) h
 
-holds_from : (w : World) → IsKept w → Holds w
-holds_from w h = record { batches = recursion_from_All (λ (e : Event). e.1.batch ≤ w.last) w.events h.batches; accounts = h.accounts }
+holds_from : (w : State) → IsKept w → Holds w
+holds_from w h = record { batches = recursion_from_All (λ (e : Event). e.1.batch ≤ w.world.last) w.world.events h.batches; accounts = h.accounts }
 
 pub steps_keep : StepsKeep
 steps_keep digest w request h =
-    let next : World = (step digest w request).world in
+    let next : State = (step digest w request).state in
     let k : Holds next = step_holds digest w request (holds_from w h) in
     record {
       ascends = steps_ascend digest w request h.ascends;
-      batches = All-from_recursion (λ (e : Event). e.1.batch ≤ next.last) next.events k.batches;
+      batches = All-from_recursion (λ (e : Event). e.1.batch ≤ next.world.last) next.world.events k.batches;
       accounts = k.accounts;
     }
 
-pub answers_keep : (digest : Digest) (w next : World) (request : Asked) (text : List ℕ) (faults : ℕ) → IsKept w → Answers digest w request text next faults → IsKept next
-answers_keep digest w next request text faults s (inl h) = subst (λ (v : World). IsKept v) (sym h.1) (steps_keep digest w request s)
-answers_keep digest w next request text faults s (inr (inl h)) = subst (λ (v : World). IsKept v) (sym h.1) s
-answers_keep digest w next request text faults s (inr (inr h)) = subst (λ (v : World). IsKept v) (sym h.1) s
+pub answers_keep : (digest : Digest) (w next : State) (request : Asked) (text : List ℕ) (faults : ℕ) → IsKept w → Answers digest w request text next faults → IsKept next
+answers_keep digest w next request text faults s (inl h) = subst (λ (v : State). IsKept v) (sym h.1) (steps_keep digest w request s)
+answers_keep digest w next request text faults s (inr (inl h)) = subst (λ (v : State). IsKept v) (sym h.1) s
+answers_keep digest w next request text faults s (inr (inr h)) = subst (λ (v : State). IsKept v) (sym h.1) s
 
-session_keeps : (digest : Digest) (w : World) (rs : List Asked) (texts : List (List ℕ)) (last : World) (faults : ℕ) → IsKept w → Session digest w rs texts last faults → IsKept last
-session_keeps digest w [] [] last faults s h = subst (λ (v : World). IsKept v) (sym h.0) s
+session_keeps : (digest : Digest) (w : State) (rs : List Asked) (texts : List (List ℕ)) (last : State) (faults : ℕ) → IsKept w → Session digest w rs texts last faults → IsKept last
+session_keeps digest w [] [] last faults s h = subst (λ (v : State). IsKept v) (sym h.0) s
 session_keeps digest w [] (t ∷ ts) last faults s h = absurd h
 session_keeps digest w (r ∷ rs) [] last faults s h = absurd h
 session_keeps digest w (r ∷ rs) (t ∷ ts) last faults s h = session_keeps digest h.0 rs ts last h.2 (answers_keep digest w h.0 r t h.1 s h.3) h.4
 
-nothing_kept : IsKept nothing
+start_kept : IsKept start
 unfolding IsStrictlySortedBy
-nothing_kept = record { ascends = tt; batches = All-from_recursion (λ (e : Event). e.1.batch ≤ 0) [] tt; accounts = λ caller number. tt }
+start_kept = record { ascends = tt; batches = All-from_recursion (λ (e : Event). e.1.batch ≤ 0) [] tt; accounts = λ caller number. tt }
 
 pub sessions_keep : SessionsKeep
-sessions_keep digest rs texts last faults h = session_keeps digest nothing rs texts last faults nothing_kept h
+sessions_keep digest rs texts last faults h = session_keeps digest start rs texts last faults start_kept h

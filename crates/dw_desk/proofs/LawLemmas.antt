@@ -19,18 +19,20 @@ use Rattle.dw_dict.specs.Rules.{widens}
 use Rattle.dw_dict.specs.Dictionary.{rule_of}
 use Rattle.dw_dict.specs.declared.rule.FieldRule.{FieldRule}
 use Rattle.dw_event.specs.declared.days.Days.{Days}
+use Rattle.dw_event.specs.declared.types.Types.{Types}
 use Rattle.dw_event.specs.declared.records.Place.{Place}
 use Rattle.dw_event.specs.declared.records.Record.{Record}
 use Rattle.dw_event.specs.declared.reports.BadRecord.{BadRecord}
 use Rattle.dw_event.specs.declared.records.Held.{Held}
-use Rattle.dw_desk.specs.declared.open_query.BoundQuery.{BoundQuery}
-use Rattle.dw_desk.specs.declared.open_query.OpenQuery.{OpenQuery}
-use Rattle.dw_desk.specs.Bound.{bound}
+use Rattle.dw_eval.specs.declared.nquery.NQuery.{NQuery}
+use Rattle.dw_eval.specs.declared.open_query.OpenQuery.{OpenQuery}
+use Rattle.dw_eval.specs.Bound.{bound}
 use Rattle.dw_event.specs.declared.reports.Shown.{Shown}
 use Rattle.dw_wire.specs.declared.request.Request.TheVariants.{Define, Grant, Ingest, Create, Page, Close}
+use Rattle.dw_plan.specs.Anchored.{anchored}
 use Rattle.dw_desk.specs.Numbers.{last_number}
 use Rattle.dw_event.specs.Take.{Event}
-use Rattle.dw_desk.specs.World.{World}
+use Rattle.dw_desk.specs.State.{State}
 use Rattle.dw_event.specs.Take.{Taken, none_taken, with_held, with_record, with_records, held_at}
 use Rattle.dw_desk.specs.Step.{Outcome, step, asked_for, defined, ingested, created, paged, dropped, query_of}
 use Rattle.dw_desk.specs.Session.{Digest, Asked}
@@ -89,37 +91,37 @@ records_sorted : (digest : Digest) (batch : ℕ) (t : Taken) (recs : List (Resul
 records_sorted digest batch t [] s = s
 records_sorted digest batch t (rec ∷ recs) s = records_sorted digest batch (with_record digest batch t rec) recs (record_sorted digest batch t rec s)
 
-either_ascends : (b : Bool) (x y : Outcome) → Ascends x.world → Ascends y.world → Ascends (cond b x y).world
+either_ascends : (b : Bool) (x y : Outcome) → Ascends x.state → Ascends y.state → Ascends (cond b x y).state
 either_ascends true x y s t = s
 either_ascends false x y s t = t
 
-ingested_ascends : (w : World) (t : Taken) → Ascends w → Sorted t.events → Ascends (ingested w t).world
-ingested_ascends w t s h = either_ascends (nat_lt 0 t.new && (w.last == last_number)) _ _ s h
+ingested_ascends : (w : State) (t : Taken) → Ascends w → Sorted t.events → Ascends (ingested w t).state
+ingested_ascends w t s h = either_ascends (nat_lt 0 t.new && (w.world.last == last_number)) _ _ s h
 
-page_ascends : (w : World) (page : ℕ) (o : Option OpenQuery) → Ascends w → Ascends (paged w page o).world
+page_ascends : (w : State) (page : ℕ) (o : Option OpenQuery) → Ascends w → Ascends (paged w page o).state
 page_ascends w page None s = s
 page_ascends w page (Some q) s = s
 
-created_ascends : (w : World) (caller : List ℕ) (q : OpenQuery) → Ascends w → Ascends (created w caller q).world
-created_ascends w caller q s = either_ascends ((w.callers caller).given == last_number) _ _ s s
+created_ascends : (w : State) (caller : List ℕ) (q : OpenQuery) → Ascends w → Ascends (created w caller q).state
+created_ascends w caller q s = either_ascends ((w.accounts caller).given == last_number) _ _ s s
 
-asked_ascends : (w : World) (caller : List ℕ) (days : Days) (size : ℕ) (asked : Option (List (List ℕ))) (o : Option BoundQuery) → Ascends w → Ascends (asked_for w caller days size asked o).world
-asked_ascends w caller days size asked None s = s
-asked_ascends w caller days size asked (Some q) s = either_ascends q.rule.indexed _ _ (created_ascends w caller (query_of w caller q days size asked) s) s
+asked_ascends : (w : State) (caller : List ℕ) (days : Days) (types : Types) (size : ℕ) (asked : Option (List (List ℕ))) (o : Option NQuery) → Ascends w → Ascends (asked_for w caller days types size asked o).state
+asked_ascends w caller days types size asked None s = s
+asked_ascends w caller days types size asked (Some q) s = either_ascends (anchored q) _ _ (created_ascends w caller (query_of w.world caller q days types size asked) s) s
 
-define_ascends : (w : World) (field : List ℕ) (rule : FieldRule) → Ascends w → Ascends (defined w field rule).world
-define_ascends w field rule s = either_ascends ((w.last == 0) || widens rule (rule_of w.dict field)) _ _ s s
+define_ascends : (w : State) (field : List ℕ) (rule : FieldRule) → Ascends w → Ascends (defined w field rule).state
+define_ascends w field rule s = either_ascends ((w.world.last == 0) || widens rule (rule_of w.world.dict field)) _ _ s s
 
-drop_ascends : (w : World) (caller : List ℕ) (number : ℕ) (o : Option OpenQuery) → Ascends w → Ascends (dropped w caller number o).world
+drop_ascends : (w : State) (caller : List ℕ) (number : ℕ) (o : Option OpenQuery) → Ascends w → Ascends (dropped w caller number o).state
 drop_ascends w caller number None s = s
 drop_ascends w caller number (Some q) s = s
 
-pub steps_ascend : (digest : Digest) (w : World) (request : Asked) → Ascends w → Ascends (step digest w request).world
+pub steps_ascend : (digest : Digest) (w : State) (request : Asked) → Ascends w → Ascends (step digest w request).state
 unfolding step
 steps_ascend digest w (Err why) s = s
 steps_ascend digest w (Ok (Define field rule)) s = define_ascends w field rule s
 steps_ascend digest w (Ok (Grant caller names)) s = s
-steps_ascend digest w (Ok (Ingest records)) s = ingested_ascends w (with_records digest (w.last + 1) (none_taken w.events) records) s (records_sorted digest (w.last + 1) (none_taken w.events) records s)
-steps_ascend digest w (Ok (Create caller query days size asked)) s = asked_ascends w caller days size asked (bound w.dict query) s
-steps_ascend digest w (Ok (Page caller number page)) s = page_ascends w page ((w.callers caller).queries number) s
-steps_ascend digest w (Ok (Close caller number)) s = drop_ascends w caller number ((w.callers caller).queries number) s
+steps_ascend digest w (Ok (Ingest records)) s = ingested_ascends w (with_records digest (w.world.last + 1) (none_taken w.world.events) records) s (records_sorted digest (w.world.last + 1) (none_taken w.world.events) records s)
+steps_ascend digest w (Ok (Create caller query days types size asked)) s = asked_ascends w caller days types size asked (bound w.world.dict query) s
+steps_ascend digest w (Ok (Page caller number page)) s = page_ascends w page ((w.accounts caller).queries number) s
+steps_ascend digest w (Ok (Close caller number)) s = drop_ascends w caller number ((w.accounts caller).queries number) s

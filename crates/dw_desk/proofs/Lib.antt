@@ -2,7 +2,8 @@ pub mod Taking
 pub mod Entries
 pub mod CallerLemmas
 pub mod DeskLemmas
-pub mod Seeing
+pub mod Granting
+pub mod Finding
 pub mod Paging
 pub mod LawLemmas
 pub mod Keeping

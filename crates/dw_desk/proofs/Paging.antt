@@ -4,10 +4,10 @@ use Rattle.std.proofs.lemmas.List.{drop-append-le, length-append, drop_all, leng
 use Rattle.std.proofs.Math.Seq.{take-append_seam}
 use Rattle.std.proofs.lemmas.Bool.{lt-ltb, le-ltb}
 use Rattle.std.proofs.lemmas.Grind.{common_steps}
-use Rattle.dw_desk.specs.declared.open_query.OpenQuery.{OpenQuery}
+use Rattle.dw_eval.specs.declared.open_query.OpenQuery.{OpenQuery}
 use Rattle.dw_event.specs.declared.reports.Shown.{Shown}
 use Rattle.dw_event.specs.Take.{Event}
-use Rattle.dw_desk.specs.Answer.{answer_of, is_answer}
+use Rattle.dw_eval.specs.Answer.{answer_of, is_answer}
 use Rattle.dw_event.specs.Seen.{is_seen, shown_of}
 use Rattle.dw_event.specs.Pages.{page_start, page_items, has_more}
 

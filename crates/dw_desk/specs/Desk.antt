@@ -1,9 +1,10 @@
--- What the desk's maps mean in the world.
+-- What the desk's maps mean in the state.
 use Rattle.std.specs.Prelude.{◌≡◌, ◌≢◌, ◌+◌, ◌⊎◌, ◌<◌, ℕ, Bool, true, false, List, Option, Some, None, Result, Ok, Err}
 use Rattle.std.specs.Option.{option_map_or}
 use Rattle.std.specs.Ordering.{nat_cmp}
 use Rattle.std.specs.BTreeMap.{BTreeMap, get}
 use Rattle.std.specs.Cmp.Lexicographic.{slice_cmp}
+use Rattle.std.specs.FinMap as map
 use Rattle.dw_event.specs.declared.records.Place.{Place}
 use Rattle.dw_wire.specs.declared.request.Request.{Request}
 use Rattle.dw_wire.specs.declared.request.Why.{Why}
@@ -12,9 +13,10 @@ use Rattle.dw_wire.specs.declared.reply.Reply.TheVariants.{Defined, Granted, Ing
 use Rattle.dw_wire.specs.declared.request.Request.TheVariants.{Define, Grant, Ingest, Create, Page, Close}
 use Rattle.dw_event.specs.declared.records.Held.{Held}
 use Rattle.dw_desk.specs.declared.desk.Desk.{Desk}
-use Rattle.dw_desk.specs.declared.open_query.OpenQuery.{OpenQuery}
+use Rattle.dw_eval.specs.declared.open_query.OpenQuery.{OpenQuery}
 use Rattle.dw_desk.specs.declared.take.Tally.{Tally}
-use Rattle.dw_desk.specs.World.{Account, World, nobody, at_caller}
+use Rattle.dw_desk.specs.World.{Grants}
+use Rattle.dw_desk.specs.State.{Account, State, nobody, at_caller}
 use Rattle.dw_desk.specs.declared.caller.Caller.{Caller}
 use Rattle.dw_desk.specs.Accounts.{account, opened}
 use Rattle.dw_event.specs.Take.{Taken}
@@ -35,6 +37,10 @@ BatchTaken last taken old new (Some tally) =
 abbrev pub account_of : BTreeMap (List ℕ) Caller → List ℕ → Account
 account_of callers name = option_map_or account (get (slice_cmp nat_cmp) callers name) nobody
 
+-- the names that the entries grant
+abbrev pub grants_of : BTreeMap (List ℕ) (List (List ℕ)) → Grants
+grants_of m = map.from_entries m.entries
+
 -- what is kept of each caller is as before
 abbrev pub SameAccounts : BTreeMap (List ℕ) Caller → BTreeMap (List ℕ) Caller → Type 0
 SameAccounts old new = account_of new ≡ account_of old
@@ -49,13 +55,16 @@ Gives old new name query None = ((account_of old name).given ≡ last_number) ×
 Gives old new name query (Some number) =
     ((account_of old name).given ≢ last_number) × (number ≡ (account_of old name).given + 1) × Changes old new name (opened query)
 
--- the world that a desk stands for
-unfoldable pub world_of : Desk → World
-world_of d = record { events = d.events.entries; last = d.last; dict = d.dict; callers = account_of d.callers }
+-- the state that a desk stands for
+unfoldable pub state_of : Desk → State
+state_of d = record {
+  world = record { events = d.events.entries; dict = d.dict; grants = grants_of d.grants; last = d.last };
+  accounts = account_of d.callers;
+}
 
--- this is the reply of the outcome, and this its world
-abbrev pub IsOutcome : Outcome → Reply → World → Type 0
-IsOutcome out reply next = (reply ≡ out.reply) × (next ≡ out.world)
+-- this is the reply of the outcome, and this its state
+abbrev pub IsOutcome : Outcome → Reply → State → Type 0
+IsOutcome out reply next = (reply ≡ out.reply) × (next ≡ out.state)
 
 -- the caller has such a query
 abbrev pub is_owned : Reply → Bool
@@ -80,14 +89,14 @@ may_want (Err why) reply = false
 may_want (Ok (Define field rule)) reply = true
 may_want (Ok (Grant caller names)) reply = true
 may_want (Ok (Ingest records)) reply = true
-may_want (Ok (Create caller query days size asked)) reply = true
+may_want (Ok (Create caller query days types size asked)) reply = true
 may_want (Ok (Page caller number page)) reply = is_owned reply
 may_want (Ok (Close caller number)) reply = false
 
 -- the outcome, or the want of memory, where that may come, which changes nothing
-abbrev pub Meets : Bool → Outcome → World → Reply → World → Type 0
-Meets wants out w reply next = IsOutcome out reply next ⊎ ((reply ≡ OutOfMemory) × (next ≡ w) × (wants ≡ true))
+abbrev pub Meets : Bool → Outcome → State → Reply → State → Type 0
+Meets wants out s reply next = IsOutcome out reply next ⊎ ((reply ≡ OutOfMemory) × (next ≡ s) × (wants ≡ true))
 
--- the answer to a request, and the world after it: those of one step, or the want of memory
-abbrev pub Replies : (List ℕ → List ℕ) → World → Result Request Why → Reply → World → Type 0
-Replies digest w request reply next = Meets (may_want request (step digest w request).reply) (step digest w request) w reply next
+-- the answer to a request, and the state after it: those of one step, or the want of memory
+abbrev pub Replies : (List ℕ → List ℕ) → State → Result Request Why → Reply → State → Type 0
+Replies digest s request reply next = Meets (may_want request (step digest s request).reply) (step digest s request) s reply next

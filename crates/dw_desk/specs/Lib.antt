@@ -1,8 +1,8 @@
 pub mod Numbers
 pub mod World
+pub mod State
 pub mod Accounts
-pub mod Bound
-pub mod Answer
+pub mod Found
 pub mod Step
 pub mod Batches
 pub mod Standing

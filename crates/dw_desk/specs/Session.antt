@@ -6,7 +6,7 @@ use Rattle.dw_wire.specs.declared.request.Why.{Why}
 use Rattle.dw_wire.specs.declared.reply.Reply.{Reply}
 use Rattle.dw_wire.specs.declared.reply.Reply.TheVariants.{Defined, Granted, Ingested, Created, Paged, Closed, Malformed, NotOwned, NotEmpty, Unanchored, Spent, StoreFault, OutOfMemory}
 use Rattle.dw_wire.specs.ReplyText.{reply_text}
-use Rattle.dw_desk.specs.World.{World}
+use Rattle.dw_desk.specs.State.{State}
 use Rattle.dw_desk.specs.Step.{step}
 
 -- how a uid is made of the canonical bytes of a record
@@ -23,7 +23,7 @@ uses_store (Err why) = false
 uses_store (Ok (Define field rule)) = true
 uses_store (Ok (Grant caller names)) = true
 uses_store (Ok (Ingest records)) = true
-uses_store (Ok (Create caller query days size asked)) = false
+uses_store (Ok (Create caller query days types size asked)) = false
 uses_store (Ok (Page caller number page)) = true
 uses_store (Ok (Close caller number)) = false
 
@@ -47,28 +47,28 @@ is_refusal OutOfMemory = false
 abbrev pub MayFail : Asked → Reply → Type 0
 MayFail request reply = IsTrue (uses_store request && not (is_refusal reply))
 
--- the text is that of the step's reply, and the world after it the step's
-abbrev pub IsStep : Digest → World → Asked → List ℕ → World → ℕ → Type 0
-IsStep digest w request text next faults =
-    (text ≡ reply_text (step digest w request).reply) × (next ≡ (step digest w request).world) × (faults ≡ 0)
+-- the text is that of the step's reply, and the state after it the step's
+abbrev pub IsStep : Digest → State → Asked → List ℕ → State → ℕ → Type 0
+IsStep digest s request text next faults =
+    (text ≡ reply_text (step digest s request).reply) × (next ≡ (step digest s request).state) × (faults ≡ 0)
 
--- the text says that memory was wanting, and the world is as it was
-abbrev pub IsWant : World → List ℕ → World → ℕ → Type 0
-IsWant w text next faults = (text ≡ reply_text OutOfMemory) × (next ≡ w) × (faults ≡ 0)
+-- the text says that memory was wanting, and the state is as it was
+abbrev pub IsWant : State → List ℕ → State → ℕ → Type 0
+IsWant s text next faults = (text ≡ reply_text OutOfMemory) × (next ≡ s) × (faults ≡ 0)
 
--- the text says that the store failed, and the world is as it was
-abbrev pub IsFault : Digest → World → Asked → List ℕ → World → ℕ → Type 0
-IsFault digest w request text next faults =
-    (text ≡ reply_text StoreFault) × (next ≡ w) × (faults ≡ 1) × MayFail request (step digest w request).reply
+-- the text says that the store failed, and the state is as it was
+abbrev pub IsFault : Digest → State → Asked → List ℕ → State → ℕ → Type 0
+IsFault digest s request text next faults =
+    (text ≡ reply_text StoreFault) × (next ≡ s) × (faults ≡ 1) × MayFail request (step digest s request).reply
 
--- the text that answers a request, the world after it, and how many faults of the store were told
-abbrev pub Answers : Digest → World → Asked → List ℕ → World → ℕ → Type 0
-Answers digest w request text next faults = IsStep digest w request text next faults ⊎ (IsWant w text next faults ⊎ IsFault digest w request text next faults)
+-- the text that answers a request, the state after it, and how many faults of the store were told
+abbrev pub Answers : Digest → State → Asked → List ℕ → State → ℕ → Type 0
+Answers digest s request text next faults = IsStep digest s request text next faults ⊎ (IsWant s text next faults ⊎ IsFault digest s request text next faults)
 
--- these texts answer the requests in order, leave the world so, and tell of so many faults of the store
-abbrev pub Session : Digest → World → List Asked → List (List ℕ) → World → ℕ → Type 0
-Session digest w [] [] last faults = (last ≡ w) × (faults ≡ 0)
-Session digest w [] (t ∷ ts) last faults = ⊥
-Session digest w (r ∷ rs) [] last faults = ⊥
-Session digest w (r ∷ rs) (t ∷ ts) last faults =
-    (next : World) × (here : ℕ) × (later : ℕ) × Answers digest w r t next here × Session digest next rs ts last later × (faults ≡ here + later)
+-- these texts answer the requests in order, leave the state so, and tell of so many faults of the store
+abbrev pub Session : Digest → State → List Asked → List (List ℕ) → State → ℕ → Type 0
+Session digest s [] [] last faults = (last ≡ s) × (faults ≡ 0)
+Session digest s [] (t ∷ ts) last faults = ⊥
+Session digest s (r ∷ rs) [] last faults = ⊥
+Session digest s (r ∷ rs) (t ∷ ts) last faults =
+    (next : State) × (here : ℕ) × (later : ℕ) × Answers digest s r t next here × Session digest next rs ts last later × (faults ≡ here + later)

@@ -2,8 +2,7 @@ ghost use Rattle.std.specs.Prelude.{◌≡◌, ◌≢◌, ◌+◌, ◌-◌, ◌^
 ghost use Rattle.dw_desk.specs.Numbers.{last_number};
 
 use crate::OutOfMemory;
-use crate::open_query::OpenQuery;
-use dw_vis::Auths;
+use dw_eval::OpenQuery;
 use std::alloc::Global;
 use std::collections::BTreeMap;
 
@@ -13,7 +12,6 @@ pub const LAST_NUMBER: u64 = 9_223_372_036_854_775_807;
 /// What is kept of one caller.
 #[derive(Debug, Drop)]
 pub struct Caller {
-    granted: Auths,
     /// The number that was given last; the first is 1.
     given: u64,
     queries: BTreeMap<u64, OpenQuery>,
@@ -21,30 +19,16 @@ pub struct Caller {
 }
 
 impl Caller {
-    ghost use Rattle.dw_desk.specs.World.{nobody};
-    ghost use Rattle.dw_desk.specs.Accounts.{account, granted, opened, closed};
+    ghost use Rattle.dw_desk.specs.State.{nobody};
+    ghost use Rattle.dw_desk.specs.Accounts.{account, opened, closed};
 
     pub fn new(alloc: Global) -> Caller
         ensures { account result ≡ nobody }
     {
         Caller {
-            granted: Auths::new(alloc),
             given: 0,
             queries: BTreeMap::new(alloc),
         }
-    }
-
-    pub fn granted(&self) -> &Auths
-        ensures { result.now ≡ self.now.granted }
-    {
-        &self.granted
-    }
-
-    /// Replaces the names that are granted.
-    pub fn grant(&mut self, names: Auths)
-        ensures { account self.new ≡ granted names (account self.old) }
-    {
-        self.granted = names;
     }
 
     /// Opens a query under the next number, or gives None where no number is left.

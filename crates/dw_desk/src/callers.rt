@@ -2,14 +2,13 @@ ghost use Rattle.std.specs.Prelude.{◌≡◌, IfOk, OnOk, OnErr, is_some};
 ghost use Rattle.std.specs.Cmp.Lexicographic.{slice_cmp};
 ghost use Rattle.std.specs.Ordering.{nat_cmp};
 ghost use Rattle.std.specs.BTreeMap.{ContainsKey};
-ghost use Rattle.dw_desk.specs.Accounts.{granted, closed};
+ghost use Rattle.dw_desk.specs.Accounts.{closed};
 ghost use Rattle.dw_desk.specs.Desk.{account_of, Changes, Gives, SameAccounts};
 
 use crate::OutOfMemory;
 use crate::caller::Caller;
-use crate::open_query::OpenQuery;
+use dw_eval::OpenQuery;
 use dw_key::Text;
-use dw_vis::Auths;
 use std::alloc::Global;
 use std::collections::BTreeMap;
 
@@ -26,26 +25,6 @@ fn enter(
         callers.insert(name.copy()?, Caller::new(alloc))?;
     }
     Ok(())
-}
-
-/// Replaces the names that the caller is granted.
-pub fn grant(
-    alloc: Global,
-    callers: &mut BTreeMap<Text, Caller>,
-    name: &Text,
-    names: Auths,
-) -> Result<(), OutOfMemory>
-    ensures grants { OnOk result (Changes callers.old callers.new name.now (granted names)) }
-    ensures err { OnErr result (SameAccounts callers.old callers.new) }
-{
-    enter(alloc, callers, name)?;
-    match callers.get_mut(name) {
-        Some(caller) => {
-            caller.grant(names);
-            Ok(())
-        }
-        None => unreachable!(),
-    }
 }
 
 /// Opens a query under the caller's next number, or gives None where no number is left.

@@ -3,47 +3,52 @@ ghost use Rattle.std.specs.Option.{option_copied};
 ghost use Rattle.dw_desk.specs.Batches.{are_before};
 
 use crate::OutOfMemory;
-use crate::bind::bind;
 use crate::caller::Caller;
-use crate::callers::{close, give, grant};
-use crate::open_query::{BoundQuery, OpenQuery};
+use crate::callers::{close, give};
+use crate::grants::{granted, put_grant};
 use crate::page::page_of;
 use crate::take::{Tally, take_batch};
 use dw_dict::{Dict, FieldRule};
-use dw_event::{Days, Held, Place, Report, UidMaker};
+use dw_eval::{BindError, NQuery, OpenQuery, bind};
+use dw_event::{Days, Held, Place, Report, Types, UidMaker};
+use dw_jexl::Query;
 use dw_key::Text;
+use dw_plan::anchored;
 use dw_vis::Auths;
-use dw_wire::{Query, Records, Reply, Request, Why};
+use dw_wire::{Records, Reply, Request, Why};
 use std::alloc::Global;
 use std::collections::BTreeMap;
 
-/// The state of the machine: the events, the number of the last batch, the rules of fields, and what is
-/// kept of each caller.
+/// The state of the machine: the events, the number of the last batch, the rules of fields, the names that
+/// callers are granted, and what is kept of each caller.
 #[derive(Debug, Drop)]
 pub struct Desk {
     events: BTreeMap<Place, Held>,
     last: u64,
     dict: Dict,
+    grants: BTreeMap<Text, Auths>,
     callers: BTreeMap<Text, Caller>,
     ghost within: { last ≤ 2 ^ 63 - 1 },
     ghost batches: { IsTrue (are_before (last + 1) events.entries) },
 }
 
 impl Desk {
-    ghost use Rattle.dw_desk.specs.World.{nothing};
+    ghost use Rattle.dw_desk.specs.World.{granted_to};
+    ghost use Rattle.dw_desk.specs.State.{start};
     ghost use Rattle.dw_desk.specs.Step.{step, allowed, asked_for, created, defined, dropped, paged, query_of};
-    ghost use Rattle.dw_desk.specs.Desk.{world_of, account_of, is_owned, IsOutcome, Meets, Replies};
-    ghost use Rattle.dw_desk.specs.Bound.{bound};
+    ghost use Rattle.dw_desk.specs.Desk.{state_of, account_of, grants_of, is_owned, IsOutcome, Meets, Replies};
+    ghost use Rattle.dw_eval.specs.Bound.{bound};
     ghost use Rattle.dw_dict.specs.Rules.{widens};
     ghost use Rattle.dw_dict.specs.Dictionary.{rule_of};
 
     pub fn new(alloc: Global) -> Desk
-        ensures { world_of result ≡ nothing }
+        ensures { state_of result ≡ start }
     {
         Desk {
             events: BTreeMap::new(alloc),
             last: 0,
             dict: Dict::new(alloc),
+            grants: BTreeMap::new(alloc),
             callers: BTreeMap::new(alloc),
         }
     }
@@ -56,7 +61,7 @@ impl Desk {
         uids: &U,
         request: &Result<Request, Why>,
     ) -> Reply
-        ensures { Replies U.digest (world_of self.old) request.now result (world_of self.new) }
+        ensures { Replies U.digest (state_of self.old) request.now result (state_of self.new) }
     {
         match request {
             Err(why) => Reply::Malformed { why: *why },
@@ -65,19 +70,20 @@ impl Desk {
     }
 
     fn carry_out<U: UidMaker>(&mut self, alloc: Global, uids: &U, request: &Request) -> Reply
-        ensures { Replies U.digest (world_of self.old) (Ok request.now) result (world_of self.new) }
+        ensures { Replies U.digest (state_of self.old) (Ok request.now) result (state_of self.new) }
     {
         match request {
             Request::Define { field, rule } => self.define(field, *rule),
-            Request::Grant { caller, auths } => self.grant(alloc, caller, auths),
+            Request::Grant { caller, auths } => self.grant(caller, auths),
             Request::Ingest { records } => self.ingest(alloc, uids, records),
             Request::Create {
                 caller,
                 query,
                 days,
+                types,
                 size,
                 auths,
-            } => self.create(alloc, caller, query, days, *size, auths.as_ref()),
+            } => self.create(alloc, caller, query, days, types, *size, auths.as_ref()),
             Request::Page {
                 caller,
                 number,
@@ -95,7 +101,7 @@ impl Desk {
     }
 
     fn define(&mut self, field: &Text, rule: FieldRule) -> Reply
-        ensures { Meets true (defined (world_of self.old) field.now rule) (world_of self.old) result (world_of self.new) }
+        ensures { Meets true (defined (state_of self.old) field.now rule) (state_of self.old) result (state_of self.new) }
     {
         if !self.may_define(field, &rule) {
             return Reply::NotEmpty;
@@ -106,20 +112,20 @@ impl Desk {
         }
     }
 
-    fn grant(&mut self, alloc: Global, caller: &Text, auths: &Auths) -> Reply
-        ensures { Meets true (step (λ _. []) (world_of self.old) (Ok (Request.Grant caller.now auths.now))) (world_of self.old) result (world_of self.new) }
+    fn grant(&mut self, caller: &Text, auths: &Auths) -> Reply
+        ensures { Meets true (step (λ _. []) (state_of self.old) (Ok (Request.Grant caller.now auths.now))) (state_of self.old) result (state_of self.new) }
     {
         let Ok(names) = auths.copy() else {
             return Reply::OutOfMemory;
         };
-        match grant(alloc, &mut self.callers, caller, names) {
+        match put_grant(&mut self.grants, caller, names) {
             Ok(()) => Reply::Granted,
             Err(_) => Reply::OutOfMemory,
         }
     }
 
     fn ingest<U: UidMaker>(&mut self, alloc: Global, uids: &U, records: &Records) -> Reply
-        ensures { Replies U.digest (world_of self.old) (Ok (Request.Ingest records.now)) result (world_of self.new) }
+        ensures { Replies U.digest (state_of self.old) (Ok (Request.Ingest records.now)) result (state_of self.new) }
     {
         let all = records.as_slice();
         let last = self.last;
@@ -144,14 +150,14 @@ impl Desk {
         caller: &Text,
         asked: Option<&Auths>,
     ) -> Result<Auths, OutOfMemory>
-        ensures { IfOk result (λ names. names ≡ allowed (account_of self.now.callers caller.now).granted (option_copied asked.entry)) }
+        ensures { IfOk result (λ names. names ≡ allowed (granted_to (grants_of self.now.grants) caller.now) (option_copied asked.entry)) }
     {
-        let Some(caller) = self.callers.get(caller) else {
+        let Some(names) = granted(&self.grants, caller) else {
             return Ok(Auths::new(alloc));
         };
         match asked {
-            None => caller.granted().copy(),
-            Some(asked) => caller.granted().meet(alloc, asked),
+            None => names.copy(),
+            Some(asked) => names.meet(alloc, asked),
         }
     }
 
@@ -160,19 +166,22 @@ impl Desk {
         &self,
         alloc: Global,
         caller: &Text,
-        query: BoundQuery,
+        query: NQuery,
         days: &Days,
+        types: &Types,
         size: u32,
         asked: Option<&Auths>,
     ) -> Result<OpenQuery, OutOfMemory>
-        ensures { IfOk result (λ q. q ≡ query_of (world_of self.now) caller.now query days.now size (option_copied asked.entry)) }
+        ensures { IfOk result (λ q. q ≡ query_of (state_of self.now).world caller.now query days.now types.now size (option_copied asked.entry)) }
     {
         Ok(OpenQuery {
             query,
-            days: days.copy()?,
-            size,
+            dict: self.dict.copy()?,
             auths: self.names_for(alloc, caller, asked)?,
             snapshot: self.last,
+            days: days.copy()?,
+            types: types.copy()?,
+            size,
         })
     }
 
@@ -180,14 +189,15 @@ impl Desk {
         &mut self,
         alloc: Global,
         caller: &Text,
-        query: BoundQuery,
+        query: NQuery,
         days: &Days,
+        types: &Types,
         size: u32,
         asked: Option<&Auths>,
     ) -> Reply
-        ensures { Meets true (created (world_of self.old) caller.now (query_of (world_of self.old) caller.now query days.now size (option_copied asked.entry))) (world_of self.old) result (world_of self.new) }
+        ensures { Meets true (created (state_of self.old) caller.now (query_of (state_of self.old).world caller.now query days.now types.now size (option_copied asked.entry))) (state_of self.old) result (state_of self.new) }
     {
-        let Ok(query) = self.query_now(alloc, caller, query, days, size, asked) else {
+        let Ok(query) = self.query_now(alloc, caller, query, days, types, size, asked) else {
             return Reply::OutOfMemory;
         };
         match give(alloc, &mut self.callers, caller, query) {
@@ -203,20 +213,23 @@ impl Desk {
         caller: &Text,
         query: &Query,
         days: &Days,
+        types: &Types,
         size: u32,
         asked: Option<&Auths>,
     ) -> Reply
-        ensures { Meets true (asked_for (world_of self.old) caller.now days.now size (option_copied asked.entry) (bound self.old.dict query.now)) (world_of self.old) result (world_of self.new) }
+        ensures { Meets true (asked_for (state_of self.old) caller.now days.now types.now size (option_copied asked.entry) (bound self.old.dict query.now)) (state_of self.old) result (state_of self.new) }
     {
-        let bound = match bind(alloc, &self.dict, query) {
-            Ok(Some(bound)) => bound,
-            Ok(None) => return Reply::Malformed { why: Why::Literal },
-            Err(_) => return Reply::OutOfMemory,
+        let bound = match bind(alloc, query, &self.dict) {
+            Ok(bound) => bound,
+            Err(BindError::Literal) => {
+                return Reply::Malformed { why: Why::Literal };
+            }
+            Err(BindError::OutOfMemory) => return Reply::OutOfMemory,
         };
-        if !bound.rule.indexed {
+        if !anchored(&bound) {
             return Reply::Unanchored;
         }
-        self.open(alloc, caller, bound, days, size, asked)
+        self.open(alloc, caller, bound, days, types, size, asked)
     }
 
     /// The caller's open query of a number.
@@ -227,7 +240,7 @@ impl Desk {
     }
 
     fn page(&self, alloc: Global, caller: &Text, number: u64, page: u32) -> Reply
-        ensures { Meets (is_owned (paged (world_of self.now) page ((account_of self.now.callers caller.now).queries number)).reply) (paged (world_of self.now) page ((account_of self.now.callers caller.now).queries number)) (world_of self.now) result (world_of self.now) }
+        ensures { Meets (is_owned (paged (state_of self.now) page ((account_of self.now.callers caller.now).queries number)).reply) (paged (state_of self.now) page ((account_of self.now.callers caller.now).queries number)) (state_of self.now) result (state_of self.now) }
     {
         let Some(query) = self.open_query(caller, number) else {
             return Reply::NotOwned;
@@ -239,7 +252,7 @@ impl Desk {
     }
 
     fn close(&mut self, caller: &Text, number: u64) -> Reply
-        ensures { IsOutcome (dropped (world_of self.old) caller.now number ((account_of self.old.callers caller.now).queries number)) result (world_of self.new) }
+        ensures { IsOutcome (dropped (state_of self.old) caller.now number ((account_of self.old.callers caller.now).queries number)) result (state_of self.new) }
     {
         if close(&mut self.callers, caller, number) {
             Reply::Closed

@@ -2,20 +2,19 @@
 //! each request.
 #![tactic(auto)]
 
-mod bind;
 mod caller;
 mod callers;
 mod desk;
+mod grants;
 mod laws;
-mod open_query;
 mod page;
 mod take;
 
 pub use desk::Desk;
 pub use dw_base::OutOfMemory;
+pub use dw_eval::OpenQuery;
 pub use dw_event::{Held, pages_are_the_answer};
-pub use dw_wire::{Query, Records, Reply, Request, Why};
+pub use dw_wire::{Records, Reply, Request, Why};
 pub use laws::{
     sessions_keep, sessions_keep_queries, sessions_tell, steps_keep, steps_keep_queries, steps_tell,
 };
-pub use open_query::{BoundQuery, OpenQuery};

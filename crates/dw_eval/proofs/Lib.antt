@@ -3,3 +3,5 @@ pub mod Texts
 pub mod Searches
 pub mod Lawful
 pub mod Forms
+pub mod NamedFields
+pub mod Again

@@ -1,5 +1,5 @@
 -- What holds of all bound queries.
-use Rattle.std.specs.Prelude.{◌≡◌, ◌↔◌, ℕ, Bool, true, false, ◌&&◌, List, map, Option, Some, None}
+use Rattle.std.specs.Prelude.{◌≡◌, ◌↔◌, ℕ, Bool, true, false, ◌&&◌, List, chars, map, Option, Some, None}
 use Rattle.std.specs.List.{list_all, list_any}
 use Rattle.std.specs.Str.Iter.{HasSubslice}
 use Rattle.dw_norm.specs.Normal.{norm}
@@ -11,6 +11,12 @@ use Rattle.dw_eval.specs.declared.nquery.NQuery.{NQuery}
 use Rattle.dw_eval.specs.declared.nquery.NQuery.TheVariants as nquery
 use Rattle.dw_eval.specs.declared.nquery.NQuery.TheOpen.{NQuery-F, Equal, Below, Above, Between, Starts, Ends, Holds, Not, And, Or}
 use Rattle.dw_eval.specs.declared.nquery.NQuery.TheFolds.{fold-NQuery}
+use Rattle.dw_jexl.specs.declared.query.Query.{Query}
+use Rattle.dw_jexl.specs.Canonical.{canonical}
+use Rattle.dw_jexl.specs.QueryLaws.{KeepsLimits}
+use Rattle.dw_jexl.specs.Spelling.{Spells}
+use Rattle.dw_eval.specs.Bound.{bound}
+use Rattle.dw_eval.specs.Named.{named_pairs}
 use Rattle.dw_eval.specs.Values.{normal_view}
 use Rattle.dw_eval.specs.Leaves.{holds, some_value}
 use Rattle.dw_eval.specs.Sat.{sat}
@@ -55,3 +61,11 @@ IndexesKnow = (view : List Formed) (q : NQuery) → is_indexed q ≡ true → kl
 -- a form holds a text exactly where it is the text with bytes before and behind it, or none
 abbrev pub HoldsIsStanding : Type 0
 HoldsIsStanding = (form text : List ℕ) → (holds form text ≡ true) ↔ HasSubslice form text
+
+-- the fields that a query does not name do not change whether values satisfy it
+abbrev pub NamedFieldsDecide : Type 0
+NamedFieldsDecide = (dict : Dictionary) (view : List Pair) (q : NQuery) → sat (normal_view dict (named_pairs q view)) q ≡ sat (normal_view dict view) q
+
+-- what a canonical text is read as is bound as the query that it is the text of, so that they have the same answers
+abbrev pub ReadingsAreBoundAlike : Type 0
+ReadingsAreBoundAlike = (dict : Dictionary) (source text : List ℕ) (q r : Query) → Spells source q → chars text ≡ canonical q → KeepsLimits text → Spells text r → bound dict r ≡ bound dict q

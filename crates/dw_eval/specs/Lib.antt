@@ -4,3 +4,5 @@ pub mod Leaves
 pub mod Sat
 pub mod Kleene
 pub mod Laws
+pub mod Named
+pub mod Answer

@@ -1,6 +1,6 @@
 //! What holds of all bound queries. The functions do nothing: their contracts are laws.
 
-ghost use Rattle.dw_eval.specs.Laws.{DeMorgan, FormsAreOfValues, IndexesKnow, HoldsIsStanding};
+ghost use Rattle.dw_eval.specs.Laws.{DeMorgan, FormsAreOfValues, IndexesKnow, HoldsIsStanding, NamedFieldsDecide, ReadingsAreBoundAlike};
 
 /// A leaf on the normal forms of a view is met exactly where some value of its field has a normal form that
 /// meets it.
@@ -21,4 +21,15 @@ pub fn indexes_know()
 /// A form holds a text exactly where the text's bytes stand somewhere in it, one behind another.
 pub fn holding_is_standing()
     ensures { HoldsIsStanding }
+{}
+
+/// Values of fields that a query does not name do not change whether it is satisfied.
+pub fn named_fields_decide()
+    ensures { NamedFieldsDecide }
+{}
+
+/// The canonical text of a query is read as a query that is bound alike, where it keeps the limits on length
+/// and depth.
+pub fn readings_are_bound_alike()
+    ensures { ReadingsAreBoundAlike }
 {}

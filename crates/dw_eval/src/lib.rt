@@ -5,17 +5,24 @@ mod binding;
 mod knowing;
 mod laws;
 mod leaf;
+mod naming;
 mod nquery;
 mod nview;
+mod open_query;
 mod satisfying;
 
 pub use binding::{BindError, bind};
 pub use dw_base::OutOfMemory;
 pub use dw_nest::Truth;
 pub use knowing::kleene;
-pub use laws::{forms_are_of_values, holding_is_standing, indexes_know, negation_goes_inward};
+pub use laws::{
+    forms_are_of_values, holding_is_standing, indexes_know, named_fields_decide,
+    negation_goes_inward, readings_are_bound_alike,
+};
+pub use naming::names;
 pub use nquery::NQuery;
 pub use nview::{Formed, NView};
+pub use open_query::OpenQuery;
 pub use satisfying::satisfies;
 
 #[cfg(test)]

@@ -1,3 +1,4 @@
+pub mod QueryTexts
 pub mod ReadLine
 pub mod ReplyText
 pub mod ReplyTokens

@@ -1,43 +1,42 @@
--- What request a line is.
-use Rattle.std.specs.Prelude.{ℕ, ◌+◌, ◌-◌, ok_or, ◌^◌, ◌==◌, ◌&&◌, Bool, true, false, not, nat_le, List, [], ◌∷◌, ◌++◌, length, take, drop, Option, Some, None, Result, Ok, Err, option_map, option_and_then, is_some, codes, if◌then◌else◌}
-use Rattle.std.specs.List.{list_any, list_all, before_first}
-use Rattle.std.specs.Str.{is_utf8, bytes_eq, str_to_ascii_uppercase}
-use Rattle.serde_json.specs.Data.{Data, Items, no_items, item, Members, no_members, member}
-use Rattle.serde_json.specs.Read.{read}
-use Rattle.serde_json.specs.Find.{get, as_bool, as_str, as_number, as_u64, as_array, as_object}
-use Rattle.dw_base.specs.Days.{day_digits}
-use Rattle.dw_base.specs.FieldNames.{is_field_name}
-use Rattle.dw_base.specs.declared.limits.TheConstants.{MAX_CELLS, MAX_CANONICAL}
+-- What request a line is, or why it is none.
+use Rattle.std.specs.Prelude.{ℕ, ◌+◌, ◌&&◌, Bool, true, nat_le, List, [], ◌∷◌, length, map, Option, Some, None, Result, Ok, Err, option_map, option_and_then, is_some, codes, if◌then◌else◌}
+use Rattle.std.specs.List.{list_all}
+use Rattle.std.specs.Str.{is_utf8, bytes_eq}
 use Rattle.std.specs.Ordering.{nat_cmp, is_le}
 use Rattle.std.specs.Cmp.Lexicographic.{slice_cmp}
+use Rattle.csv.specs.Reading.{default_config, strip_bom, records}
+use Rattle.serde_json.specs.Data.{Num, unsigned, negative, float, Data, Items, no_items, item}
+use Rattle.serde_json.specs.Read.{read}
+use Rattle.serde_json.specs.Find.{get, as_bool, as_str, as_number, as_array}
+use Rattle.dw_base.specs.Days.{day_digits}
 use Rattle.dw_key.specs.TypeName.{is_type_name}
 use Rattle.dw_vis.specs.Names.{with_name}
-use Rattle.dw_event.specs.Records.{canon}
-use Rattle.dw_event.specs.Cells.{with_cell}
-use Rattle.dw_event.specs.Names.{lacks_zero, is_raw_value, is_visibility}
-use Rattle.dw_event.specs.declared.cells.EventCell.{EventCell}
+use Rattle.dw_event.specs.Names.{lacks_zero}
 use Rattle.dw_event.specs.declared.records.Record.{Record}
 use Rattle.dw_event.specs.declared.days.Days.{Days}
+use Rattle.dw_event.specs.declared.types.Types.{Types}
+use Rattle.dw_event.specs.declared.types.Types.TheVariants.{All, Only}
 use Rattle.dw_event.specs.declared.reports.BadRecord.{BadRecord}
-use Rattle.dw_event.specs.declared.reports.BadRecord.TheVariants.{Visibility}
 use Rattle.dw_norm.specs.declared.kind.Kind.{Kind}
 use Rattle.dw_norm.specs.declared.kind.Kind.TheVariants.{Text, Noop, Number, Date, Ipv4}
 use Rattle.dw_dict.specs.Rules.{field_rule}
 use Rattle.dw_dict.specs.declared.rule.FieldRule.{FieldRule}
-use Rattle.dw_wire.specs.declared.reading.gathered.Gathered.{Gathered}
+use Rattle.dw_jexl.specs.declared.error.QueryRule.{QueryRule}
+use Rattle.dw_jexl.specs.declared.query.Query.{Query}
+use Rattle.dw_rows.specs.Values.{guarded, text_at, has_only}
+use Rattle.dw_rows.specs.Entries.{field_of}
+use Rattle.dw_rows.specs.JsonRecords.{json_record}
+use Rattle.dw_rows.specs.CsvRecords.{csv_record}
+use Rattle.dw_wire.specs.declared.limits.TheConstants.{MAX_LINE, MAX_CALLER, MAX_NAMES, MAX_RECORDS, MAX_TYPES, MAX_SIZE, MAX_NUMBER, MAX_PAGE}
 use Rattle.dw_wire.specs.declared.request.Request.{Request}
 use Rattle.dw_wire.specs.declared.request.Request.TheVariants.{Define, Grant, Ingest, Create, Page, Close}
-use Rattle.dw_wire.specs.declared.request.Query.{Query}
 use Rattle.dw_wire.specs.declared.request.Why.{Why}
-use Rattle.dw_wire.specs.declared.request.Why.TheVariants.{Unbuilt}
+use Rattle.dw_wire.specs.declared.request.Why.TheVariants as why
+use Rattle.dw_wire.specs.QueryTexts.{query_of}
 
 -- the most bytes that a line may have
 abbrev pub max_line : ℕ
-max_line = 4194304
-
--- the value, where the test holds
-abbrev pub guarded : {A : Type 0} → Bool → Option A → Option A
-guarded test value = if test then value else None
+max_line = MAX_LINE
 
 -- ---- values and members
 
@@ -45,39 +44,59 @@ guarded test value = if test then value else None
 abbrev pub json_of : List ℕ → Option Data
 json_of bytes = guarded (is_utf8 bytes) (read bytes)
 
--- a member that is a text
-abbrev pub text_at : List ℕ → Data → Option (List ℕ)
-text_at name d = option_and_then as_str (get name d)
-
 -- a member that is a truth value
 abbrev pub bool_at : List ℕ → Data → Option Bool
 bool_at name d = option_and_then as_bool (get name d)
 
--- a member that is a list, and one that is an object
+-- a member that is a list
 abbrev pub array_at : List ℕ → Data → Option Items
 array_at name d = option_and_then as_array (get name d)
 
-abbrev pub object_at : List ℕ → Data → Option Members
-object_at name d = option_and_then as_object (get name d)
+-- each item is a text
+abbrev pub are_texts : Items → Bool
+are_texts no_items = true
+are_texts (item d ds) = is_some (as_str d) && are_texts ds
 
--- a member that is a whole number and not negative
-abbrev pub natural_at : List ℕ → Data → Option ℕ
-natural_at name d = option_and_then as_u64 (option_and_then as_number (get name d))
+-- a member that is a list of texts
+abbrev pub texts_at : List ℕ → Data → Option Items
+texts_at name d = option_and_then (λ ds. guarded (are_texts ds) (Some ds)) (array_at name d)
 
--- a member that is a whole number from 1 to the most
-abbrev pub number_at : List ℕ → ℕ → Data → Option ℕ
-number_at name most d = option_and_then (λ n. guarded (nat_le 1 n && nat_le n most) (Some n)) (natural_at name d)
+-- such a member, or None within where it is missing
+abbrev pub asked_texts : List ℕ → Data → Option (Option Items)
+asked_texts name d = if is_some (get name d) then option_map Some (texts_at name d) else Some None
 
--- each member has one of these names
-abbrev pub has_only_names : List (List ℕ) → Members → Bool
-has_only_names names no_members = true
-has_only_names names (member k d ms) = list_any (λ n. bytes_eq n k) names && has_only_names names ms
+-- a whole number of 64 bits, or None within where it is below zero
+abbrev pub whole_of : Num → Option (Option ℕ)
+whole_of (unsigned n) = Some (Some n)
+whole_of (negative z) = Some None
+whole_of (float x) = None
 
--- an object with no member but these
-abbrev pub has_only : List (List ℕ) → Data → Bool
-has_only names d = is_some (option_and_then (λ ms. guarded (has_only_names names ms) (Some ms)) (as_object d))
+-- a member that is such a number
+abbrev pub whole_at : List ℕ → Data → Option (Option ℕ)
+whole_at name d = option_and_then whole_of (option_and_then as_number (get name d))
 
--- ---- the rules on texts
+-- such a number, where it is from 1 to the most
+abbrev pub counted_to : ℕ → Option ℕ → Option ℕ
+counted_to most None = None
+counted_to most (Some n) = guarded (nat_le 1 n && nat_le n most) (Some n)
+
+abbrev pub items_count : Items → ℕ
+items_count no_items = 0
+items_count (item d ds) = items_count ds + 1
+
+-- ---- what must be there
+
+-- what follows from a part that must be there, or why there is none
+abbrev pub needed : {A B : Type 0} → Why → Option A → (A → Result B Why) → Result B Why
+needed reason None rest = Err reason
+needed reason (Some a) rest = rest a
+
+-- what follows from a query, or the rule that its text breaks
+abbrev pub needed_query : {B : Type 0} → Result Query QueryRule → (Query → Result B Why) → Result B Why
+needed_query (Err rule) rest = Err (why.Query rule)
+needed_query (Ok query) rest = rest query
+
+-- ---- callers, names and types
 
 -- a visible ASCII character
 abbrev pub is_visible : ℕ → Bool
@@ -85,236 +104,10 @@ is_visible b = nat_le 33 b && nat_le b 126
 
 -- a caller: 1 to 128 such characters
 abbrev pub is_caller : List ℕ → Bool
-is_caller caller = nat_le 1 (length caller) && nat_le (length caller) 128 && list_all is_visible caller
+is_caller caller = nat_le 1 (length caller) && nat_le (length caller) MAX_CALLER && list_all is_visible caller
 
--- ---- a record
-
--- a text that is a raw value: UTF-8 of 1 to 4,096 bytes, none of them 0
-abbrev pub is_value : List ℕ → Bool
-is_value raw = is_utf8 raw && is_raw_value raw
-
--- the visibility that a text is, or None where it is refused or holds a byte 0
-abbrev pub vis_of : List ℕ → Option (List ℕ)
-vis_of text = guarded (is_visibility text) (Some text)
-
--- the cell of a field, in upper case, a raw value and a visibility
-abbrev pub cell_of : List ℕ → List ℕ → List ℕ → EventCell
-cell_of name raw vis = record { field = str_to_ascii_uppercase name; raw = raw; vis = vis }
-
--- with one value more, whose visibility may be refused
-abbrev pub with_value : List ℕ → List ℕ → Option (List ℕ) → Gathered → Gathered
-with_value name raw None g = record { cells = g.cells; refused = true }
-with_value name raw (Some vis) g = record { cells = with_cell g.cells (cell_of name raw vis); refused = g.refused }
-
--- the visibility that a member `vis` gives, or else this one: None where the member is no text, and Some None
--- where the visibility is refused
-abbrev pub vis_member : Option Data → Option (List ℕ) → Option (Option (List ℕ))
-vis_member None default = Some default
-vis_member (Some d) default = option_map vis_of (as_str d)
-
--- the raw value and the visibility of an object with a text `value` and perhaps a text `vis`
-abbrev pub object_parts : Option (List ℕ) → Data → Option (List ℕ × Option (List ℕ))
-object_parts default d =
-    guarded (has_only (codes "value" ∷ codes "vis" ∷ []) d)
-    (option_and_then (λ raw. option_map (λ vis. (raw, vis)) (vis_member (get (codes "vis") d) default)) (text_at (codes "value") d))
-
--- the raw value and the visibility of an item: a text, or such an object
-abbrev pub item_parts : Option (List ℕ) → Data → Option (List ℕ × Option (List ℕ))
-item_parts default Data.null = None
-item_parts default (Data.boolean b) = None
-item_parts default (Data.number n) = None
-item_parts default (Data.string s) = Some (s, default)
-item_parts default (Data.array ds) = None
-item_parts default (Data.object ms) = object_parts default (Data.object ms)
-
--- with an item of a field more
-abbrev pub with_item : List ℕ → Option (List ℕ) → Gathered → Data → Option Gathered
-with_item name default g d = option_and_then (λ p. guarded (is_value p.0) (Some (with_value name p.0 p.1 g))) (item_parts default d)
-
--- with the items of a list more
-abbrev pub with_items : List ℕ → Option (List ℕ) → Gathered → Items → Option Gathered
-with_items name default g no_items = Some g
-with_items name default g (item d ds) = option_and_then (λ more. with_items name default more ds) (with_item name default g d)
-
--- the list has an item
-abbrev pub has_items : Items → Bool
-has_items no_items = false
-has_items (item d ds) = true
-
--- with those of a member: one item, or a list of at least one
-abbrev pub with_values : List ℕ → Option (List ℕ) → Gathered → Data → Option Gathered
-with_values name default g Data.null = None
-with_values name default g (Data.boolean b) = None
-with_values name default g (Data.number n) = None
-with_values name default g (Data.string s) = with_item name default g (Data.string s)
-with_values name default g (Data.array ds) = guarded (has_items ds) (with_items name default g ds)
-with_values name default g (Data.object ms) = with_item name default g (Data.object ms)
-
--- with those of all members
-abbrev pub with_fields : Option (List ℕ) → Gathered → Members → Option Gathered
-with_fields default g no_members = Some g
-with_fields default g (member k d ms) =
-    guarded (is_field_name k) (option_and_then (λ more. with_fields default more ms) (with_values k default g d))
-
--- the names of members, folded to upper case
-abbrev pub folded_names : Members → List (List ℕ)
-folded_names no_members = []
-folded_names (member k d ms) = str_to_ascii_uppercase k ∷ folded_names ms
-
--- no two texts of the list are equal
-abbrev pub all_differ : List (List ℕ) → Bool
-all_differ [] = true
-all_differ (t ∷ ts) = not (list_any (λ u. bytes_eq u t) ts) && all_differ ts
-
-abbrev pub has_members : Members → Bool
-has_members no_members = false
-has_members (member k d ms) = true
-
--- what was read, where its cells are at most 4,096
-abbrev pub few : Option Gathered → Option Gathered
-few = option_and_then (λ g. guarded (nat_le (length g.cells) MAX_CELLS) (Some g))
-
--- before the first field: a refused visibility of the record counts, wherever it is used
-abbrev pub none_gathered : Option (List ℕ) → Gathered
-none_gathered default = record { cells = []; refused = not (is_some default) }
-
--- what an object of fields gives, of which there is at least one, whose names differ when they are folded, and
--- whose cells are at most 4,096
-abbrev pub gathered_of : Option (List ℕ) → Members → Option Gathered
-gathered_of default ms = guarded (has_members ms && all_differ (folded_names ms)) (few (with_fields default (none_gathered default) ms))
-
--- the most canonical bytes of a record
-abbrev pub keeps_limit : Record → Bool
-keeps_limit rec = nat_le (length (canon rec)) MAX_CANONICAL
-
--- the record of a type, a date and cells that keep their rules, where it keeps the limit
-abbrev pub if_limited : Record → Option (Result Record BadRecord)
-if_limited rec = guarded (keeps_limit rec) (Some (Ok rec))
-
--- the record of these parts, or the rule that it breaks, where each other part keeps its rule
-abbrev pub record_of_parts : List ℕ → List ℕ → Gathered → Option (Result Record BadRecord)
-record_of_parts dtype date g =
-    guarded (is_type_name dtype)
-    (option_and_then (λ day. if g.refused then Some (Err Visibility) else if_limited (record { dtype = dtype; date = day; cells = g.cells })) (day_digits date))
-
--- an object with exactly a type, a date, fields, and perhaps a visibility
-abbrev pub record_of : Data → Option (Result Record BadRecord)
-record_of d =
-    guarded (has_only (codes "type" ∷ codes "date" ∷ codes "fields" ∷ codes "vis" ∷ []) d)
-    (option_and_then (λ dtype. option_and_then (λ date. option_and_then (λ default. option_and_then (λ g. record_of_parts dtype date g)
-    (option_and_then (gathered_of default) (object_at (codes "fields") d)))
-    (vis_member (get (codes "vis") d) (Some [])))
-    (text_at (codes "date") d))
-    (text_at (codes "type") d))
-
-abbrev pub records_of : Items → Option (List (Result Record BadRecord))
-records_of no_items = Some []
-records_of (item d ds) = option_and_then (λ rec. option_map (λ recs. rec ∷ recs) (records_of ds)) (record_of d)
-
-abbrev pub items_count : Items → ℕ
-items_count no_items = 0
-items_count (item d ds) = items_count ds + 1
-
--- the records of an ingest, at most 10,000
-abbrev pub batch_of : Items → Option (List (Result Record BadRecord))
-batch_of ds = guarded (nat_le (items_count ds) 10000) (records_of ds)
-
--- ---- the definition of a field
-
--- the kind of a name
-abbrev pub kind_of : List ℕ → Option Kind
-kind_of name =
-    if bytes_eq name (codes "TEXT") then Some Text
-    else if bytes_eq name (codes "NOOP") then Some Noop
-    else if bytes_eq name (codes "NUMBER") then Some Number
-    else if bytes_eq name (codes "DATE") then Some Date
-    else if bytes_eq name (codes "IPV4") then Some Ipv4
-    else None
-
--- the rule that the members of a definition make, where `reversed` stands only with `indexed`
-abbrev pub rule_at : Data → Option FieldRule
-rule_at d =
-    option_and_then (λ kind. option_and_then (λ indexed. option_and_then (λ reversed. field_rule kind indexed reversed)
-    (bool_at (codes "reversed") d)) (bool_at (codes "indexed") d)) (option_and_then kind_of (text_at (codes "kind") d))
-
--- the field that is defined, in upper case
-abbrev pub field_at : Data → Option (List ℕ)
-field_at d = option_and_then (λ name. guarded (is_field_name name) (Some (str_to_ascii_uppercase name))) (text_at (codes "field") d)
-
--- ---- a query
-
--- words of the query language, which are no fields
-abbrev pub query_words : List (List ℕ)
-query_words =
-    codes "and" ∷ codes "or" ∷ codes "not" ∷ codes "eq" ∷ codes "ne" ∷ codes "lt" ∷ codes "le" ∷ codes "gt" ∷ codes "ge"
-    ∷ codes "true" ∷ codes "false" ∷ codes "null" ∷ codes "_Bounded_" ∷ []
-
--- a field of a query
-abbrev pub is_query_field : List ℕ → Bool
-is_query_field name = is_field_name name && not (list_any (λ w. bytes_eq w name) query_words)
-
--- a byte that may stand between quotes: no quote and no backslash
-abbrev pub is_plain_byte : ℕ → Bool
-is_plain_byte b = not (b == 39) && not (b == 92)
-
--- such bytes alone, or none
-abbrev pub is_plain : List ℕ → Bool
-is_plain literal = list_all is_plain_byte literal
-
--- a query as it is written: the field, ` == '`, the literal and a quote
-abbrev pub written_query : List ℕ → List ℕ → List ℕ
-written_query field literal = field ++ codes " == '" ++ literal ++ codes "'"
-
--- the field of a query's text, which the first space ends
-abbrev pub field_part : List ℕ → List ℕ
-field_part text = before_first (λ b. b == 32) text
-
--- the literal of a query's text: all between ` == '` after the field and the last byte
-abbrev pub literal_part : List ℕ → List ℕ
-literal_part text = take (length text - (length (field_part text) + 6)) (drop (length (field_part text) + 5) text)
-
--- the text is written as a query of these parts
-abbrev pub is_written : List ℕ → Bool
-is_written text = bytes_eq text (written_query (field_part text) (literal_part text))
-
--- the query of a field and a literal, where each keeps its rule
-abbrev pub query_of_parts : List ℕ → List ℕ → Option Query
-query_of_parts field literal =
-    guarded (is_query_field field && is_plain literal) (Some (record { field = str_to_ascii_uppercase field; literal = literal }))
-
--- the query that a text of at most 16,384 bytes is
-abbrev pub query_of : List ℕ → Option Query
-query_of text = guarded (nat_le (length text) 16384 && is_written text) (query_of_parts (field_part text) (literal_part text))
-
--- the days of a query, the first not after the last
-abbrev pub days_of : List ℕ → List ℕ → Option Days
-days_of first last =
-    option_and_then (λ from. option_and_then (λ to. guarded (is_le (slice_cmp nat_cmp from to)) (Some (record { first = from; last = to }))) (day_digits last)) (day_digits first)
-
--- ---- the requests
-
-abbrev pub define_of : Data → Option Request
-define_of d =
-    guarded (has_only (codes "op" ∷ codes "field" ∷ codes "kind" ∷ codes "indexed" ∷ codes "reversed" ∷ []) d)
-    (option_and_then (λ field. option_map (λ rule. Define field rule) (rule_at d)) (field_at d))
-
-abbrev pub ingest_of : Data → Option Request
-ingest_of d =
-    guarded (has_only (codes "op" ∷ codes "records" ∷ []) d)
-    (option_map Ingest (option_and_then batch_of (array_at (codes "records") d)))
-
--- the size of a page, 10 where it is not said
-abbrev pub size_of : Data → Option ℕ
-size_of d = if is_some (get (codes "size") d) then number_at (codes "size") 1000 d else Some 10
-
-abbrev pub caller_of : Data → Option (List ℕ)
-caller_of d = option_and_then (λ c. guarded (is_caller c) (Some c)) (text_at (codes "caller") d)
-
-abbrev pub query_at : Data → Option Query
-query_at d = option_and_then query_of (text_at (codes "query") d)
-
-abbrev pub days_at : Data → Option Days
-days_at d = option_and_then (λ first. option_and_then (λ last. days_of first last) (text_at (codes "to") d)) (text_at (codes "from") d)
+abbrev pub caller_of : List ℕ → Option (List ℕ)
+caller_of caller = guarded (is_caller caller) (Some caller)
 
 -- the name of an authorisation: 1 to 512 bytes, none of them 0
 abbrev pub is_auth : List ℕ → Bool
@@ -328,42 +121,153 @@ with_auths names (item d ds) =
 
 -- the set of the names of a list, at most 256 as they are written
 abbrev pub auths_of : Items → Option (List (List ℕ))
-auths_of ds = guarded (nat_le (items_count ds) 256) (with_auths [] ds)
+auths_of ds = guarded (nat_le (items_count ds) MAX_NAMES) (with_auths [] ds)
 
 -- the names that are asked for, where some are
-abbrev pub asked_of : Data → Option (Option (List (List ℕ)))
-asked_of d =
-    if is_some (get (codes "auths") d) then option_map Some (option_and_then auths_of (array_at (codes "auths") d)) else Some None
+abbrev pub asked_auths : Option Items → Option (Option (List (List ℕ)))
+asked_auths None = Some None
+asked_auths (Some ds) = option_map Some (auths_of ds)
 
-abbrev pub grant_of : Data → Option Request
+-- the names of types that a list has
+abbrev pub type_names : Items → Option (List (List ℕ))
+type_names no_items = Some []
+type_names (item d ds) =
+    option_and_then (λ name. guarded (is_type_name name) (option_map (λ names. name ∷ names) (type_names ds))) (as_str d)
+
+-- the types of a list of 1 to 64 names, as they are written
+abbrev pub only_of : Items → Option Types
+only_of ds = guarded (nat_le 1 (items_count ds) && nat_le (items_count ds) MAX_TYPES) (option_map Only (type_names ds))
+
+-- the types that are asked for, all where none are named
+abbrev pub asked_types : Option Items → Option Types
+asked_types None = Some All
+asked_types (Some ds) = only_of ds
+
+-- ---- the records of an ingest
+
+-- the records of values, each read or the first rule that it breaks
+abbrev pub records_of : Items → List (Result Record BadRecord)
+records_of no_items = []
+records_of (item d ds) = json_record d ∷ records_of ds
+
+-- the records of a list of at most 10,000 values
+abbrev pub batch_of : Items → Option (List (Result Record BadRecord))
+batch_of ds = guarded (nat_le (items_count ds) MAX_RECORDS) (Some (records_of ds))
+
+-- the rows of a text of CSV, without the byte order mark at its start
+abbrev pub rows_of : List ℕ → List (List (List ℕ))
+rows_of text = records default_config (strip_bom text)
+
+-- the records of the rows behind a header, at most 10,000; where there is no header there is none
+abbrev pub rows_batch : List (List (List ℕ)) → Option (List (Result Record BadRecord))
+rows_batch [] = Some []
+rows_batch (header ∷ rows) = guarded (nat_le (length rows) MAX_RECORDS) (Some (map (csv_record header) rows))
+
+-- ---- the definition of a field
+
+-- the kind of a name
+abbrev pub kind_of : List ℕ → Option Kind
+kind_of name =
+    if bytes_eq name (codes "TEXT") then Some Text
+    else if bytes_eq name (codes "NOOP") then Some Noop
+    else if bytes_eq name (codes "NUMBER") then Some Number
+    else if bytes_eq name (codes "DATE") then Some Date
+    else if bytes_eq name (codes "IPV4") then Some Ipv4
+    else None
+
+-- the rule of a kind by its name, where `reversed` stands only with `indexed`
+abbrev pub rule_of : List ℕ → Bool → Bool → Option FieldRule
+rule_of kind indexed reversed = option_and_then (λ k. field_rule k indexed reversed) (kind_of kind)
+
+-- ---- a query
+
+-- the days of a query, the first not after the last
+abbrev pub days_of : List ℕ → List ℕ → Option Days
+days_of first last =
+    option_and_then (λ from. option_and_then (λ to. guarded (is_le (slice_cmp nat_cmp from to)) (Some (record { first = from; last = to }))) (day_digits last)) (day_digits first)
+
+-- the size of a page that a create says, 10 where it says none
+abbrev pub size_at : Data → Option (Option ℕ)
+size_at d = if is_some (get (codes "size") d) then whole_at (codes "size") d else Some (Some 10)
+
+-- ---- the requests: first whether the members are those of the request and of their types, and then each rule in turn
+
+abbrev pub define_with : List ℕ → List ℕ → Bool → Bool → Result Request Why
+define_with name kind indexed reversed =
+    needed why.Field (field_of name) (λ field. needed why.Kind (rule_of kind indexed reversed) (λ rule. Ok (Define field rule)))
+
+abbrev pub define_of : Data → Result Request Why
+define_of d =
+    if has_only (codes "op" ∷ codes "field" ∷ codes "kind" ∷ codes "indexed" ∷ codes "reversed" ∷ []) d
+    then needed why.Shape (text_at (codes "field") d) (λ name. needed why.Shape (text_at (codes "kind") d) (λ kind.
+    needed why.Shape (bool_at (codes "indexed") d) (λ indexed. needed why.Shape (bool_at (codes "reversed") d) (λ reversed.
+    define_with name kind indexed reversed))))
+    else Err why.Shape
+
+abbrev pub grant_with : List ℕ → Items → Result Request Why
+grant_with caller names =
+    needed why.Caller (caller_of caller) (λ who. needed why.Auths (auths_of names) (λ auths. Ok (Grant who auths)))
+
+abbrev pub grant_of : Data → Result Request Why
 grant_of d =
-    guarded (has_only (codes "op" ∷ codes "caller" ∷ codes "auths" ∷ []) d)
-    (option_and_then (λ caller. option_map (λ auths. Grant caller auths)
-    (option_and_then auths_of (array_at (codes "auths") d))) (caller_of d))
+    if has_only (codes "op" ∷ codes "caller" ∷ codes "auths" ∷ []) d
+    then needed why.Shape (text_at (codes "caller") d) (λ caller. needed why.Shape (texts_at (codes "auths") d) (λ names. grant_with caller names))
+    else Err why.Shape
 
-abbrev pub create_of : Data → Option Request
+-- what was read of a batch, where its records are not too many
+abbrev pub ingest_with : Option (List (Result Record BadRecord)) → Result Request Why
+ingest_with batch = needed why.Records batch (λ recs. Ok (Ingest recs))
+
+abbrev pub ingest_of : Data → Result Request Why
+ingest_of d =
+    if has_only (codes "op" ∷ codes "records" ∷ []) d then needed why.Shape (array_at (codes "records") d) (λ ds. ingest_with (batch_of ds))
+    else if has_only (codes "op" ∷ codes "csv" ∷ []) d then needed why.Shape (text_at (codes "csv") d) (λ text. ingest_with (rows_batch (rows_of text)))
+    else Err why.Shape
+
+-- a create of a caller, names and a query that keep their rules
+abbrev pub create_as : List ℕ → Option (List (List ℕ)) → Query → List ℕ → List ℕ → Option Items → Option ℕ → Result Request Why
+create_as caller auths query first last types size =
+    needed why.Days (days_of first last) (λ days. needed why.Types (asked_types types) (λ wanted. needed why.Size (counted_to MAX_SIZE size) (λ most.
+    Ok (Create caller query days wanted most auths))))
+
+abbrev pub create_with : List ℕ → Option Items → List ℕ → List ℕ → List ℕ → Option Items → Option ℕ → Result Request Why
+create_with caller names text first last types size =
+    needed why.Caller (caller_of caller) (λ who. needed why.Auths (asked_auths names) (λ auths. needed_query (query_of text) (λ query.
+    create_as who auths query first last types size)))
+
+abbrev pub create_of : Data → Result Request Why
 create_of d =
-    guarded (has_only (codes "op" ∷ codes "caller" ∷ codes "query" ∷ codes "from" ∷ codes "to" ∷ codes "size" ∷ codes "auths" ∷ []) d)
-    (option_and_then (λ caller. option_and_then (λ query. option_and_then (λ days. option_and_then (λ size. option_map (λ asked. Create caller query days size asked)
-    (asked_of d)) (size_of d)) (days_at d)) (query_at d)) (caller_of d))
+    if has_only (codes "op" ∷ codes "caller" ∷ codes "query" ∷ codes "from" ∷ codes "to" ∷ codes "types" ∷ codes "size" ∷ codes "auths" ∷ []) d
+    then needed why.Shape (text_at (codes "caller") d) (λ caller. needed why.Shape (text_at (codes "query") d) (λ text.
+    needed why.Shape (text_at (codes "from") d) (λ first. needed why.Shape (text_at (codes "to") d) (λ last.
+    needed why.Shape (asked_texts (codes "auths") d) (λ names. needed why.Shape (asked_texts (codes "types") d) (λ types.
+    needed why.Shape (size_at d) (λ size. create_with caller names text first last types size)))))))
+    else Err why.Shape
 
--- the number of a query
-abbrev pub query_number : Data → Option ℕ
-query_number d = number_at (codes "number") (2 ^ 63 - 1) d
+abbrev pub page_with : List ℕ → Option ℕ → Option ℕ → Result Request Why
+page_with caller number page =
+    needed why.Caller (caller_of caller) (λ who. needed why.Number (counted_to MAX_NUMBER number) (λ n. needed why.Page (counted_to MAX_PAGE page) (λ k.
+    Ok (Page who n k))))
 
-abbrev pub page_of : Data → Option Request
+abbrev pub page_of : Data → Result Request Why
 page_of d =
-    guarded (has_only (codes "op" ∷ codes "caller" ∷ codes "number" ∷ codes "page" ∷ []) d)
-    (option_and_then (λ caller. option_and_then (λ number. option_map (λ page. Page caller number page)
-    (number_at (codes "page") 4294967295 d)) (query_number d)) (caller_of d))
+    if has_only (codes "op" ∷ codes "caller" ∷ codes "number" ∷ codes "page" ∷ []) d
+    then needed why.Shape (text_at (codes "caller") d) (λ caller. needed why.Shape (whole_at (codes "number") d) (λ number.
+    needed why.Shape (whole_at (codes "page") d) (λ page. page_with caller number page)))
+    else Err why.Shape
 
-abbrev pub close_of : Data → Option Request
+abbrev pub close_with : List ℕ → Option ℕ → Result Request Why
+close_with caller number =
+    needed why.Caller (caller_of caller) (λ who. needed why.Number (counted_to MAX_NUMBER number) (λ n. Ok (Close who n)))
+
+abbrev pub close_of : Data → Result Request Why
 close_of d =
-    guarded (has_only (codes "op" ∷ codes "caller" ∷ codes "number" ∷ []) d)
-    (option_and_then (λ caller. option_map (λ number. Close caller number) (query_number d)) (caller_of d))
+    if has_only (codes "op" ∷ codes "caller" ∷ codes "number" ∷ []) d
+    then needed why.Shape (text_at (codes "caller") d) (λ caller. needed why.Shape (whole_at (codes "number") d) (λ number. close_with caller number))
+    else Err why.Shape
 
 -- the request of this operation
-abbrev pub request_named : List ℕ → Data → Option Request
+abbrev pub request_named : List ℕ → Data → Result Request Why
 request_named op d =
     if bytes_eq op (codes "define") then define_of d
     else if bytes_eq op (codes "grant") then grant_of d
@@ -371,11 +275,12 @@ request_named op d =
     else if bytes_eq op (codes "create") then create_of d
     else if bytes_eq op (codes "page") then page_of d
     else if bytes_eq op (codes "close") then close_of d
-    else None
+    else Err why.Shape
 
-abbrev pub request_of : Data → Option Request
-request_of d = option_and_then (λ op. request_named op d) (text_at (codes "op") d)
+-- the request that a value is: an object whose `op` is the name of an operation
+abbrev pub request_of : Data → Result Request Why
+request_of d = needed why.Shape (text_at (codes "op") d) (λ op. request_named op d)
 
--- the request that a line is; a line of any other form is not built
+-- the request that a line is, or the first reason that holds why it is none
 unfoldable pub read_line : List ℕ → Result Request Why
-read_line line = ok_or (guarded (nat_le (length line) max_line) (option_and_then request_of (json_of line))) Unbuilt
+read_line line = if nat_le (length line) max_line then needed why.Json (json_of line) request_of else Err why.Line

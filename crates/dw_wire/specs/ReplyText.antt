@@ -6,7 +6,9 @@ use Rattle.serde_json.specs.Written.{compact_text}
 use Rattle.hex.specs.Hex.{encode_lower}
 use Rattle.dw_event.specs.declared.views.Pair.{Pair}
 use Rattle.dw_wire.specs.declared.request.Why.{Why}
-use Rattle.dw_wire.specs.declared.request.Why.TheVariants.{Unbuilt, Literal}
+use Rattle.dw_wire.specs.declared.request.Why.TheVariants as why
+use Rattle.dw_jexl.specs.declared.error.QueryRule.{QueryRule}
+use Rattle.dw_jexl.specs.declared.error.QueryRule.TheVariants as rule
 use Rattle.dw_wire.specs.declared.reply.Reply.{Reply}
 use Rattle.dw_wire.specs.declared.reply.Reply.TheVariants.{Defined, Granted, Ingested, Created, Paged, Closed, Malformed, NotOwned, NotEmpty, Unanchored, Spent, StoreFault, OutOfMemory}
 use Rattle.dw_event.specs.declared.reports.Bad.{Bad}
@@ -77,9 +79,35 @@ bad_data_at at (Clash place) =
 abbrev pub bad_data : Bad → Data
 bad_data b = bad_data_at b.at b.why
 
-abbrev pub why_text : Why → List ℕ
-why_text Unbuilt = codes "unbuilt"
-why_text Literal = codes "literal"
+-- the name of a rule on queries
+abbrev pub query_rule_text : QueryRule → List ℕ
+query_rule_text rule.TooLong = codes "tooLong"
+query_rule_text rule.TooDeep = codes "tooDeep"
+query_rule_text rule.Syntax = codes "syntax"
+query_rule_text rule.TooMany = codes "tooMany"
+query_rule_text rule.Pattern = codes "pattern"
+
+-- the member that says why
+abbrev pub why_member : List ℕ → Members
+why_member name = member (codes "why") (word name) no_members
+
+-- the members of a refusal behind the first: a rule, where there is one, and why
+abbrev pub why_members : Why → Members
+why_members why.Line = why_member (codes "line")
+why_members why.Json = why_member (codes "json")
+why_members why.Shape = why_member (codes "shape")
+why_members why.Caller = why_member (codes "caller")
+why_members why.Field = why_member (codes "field")
+why_members why.Kind = why_member (codes "kind")
+why_members why.Auths = why_member (codes "auths")
+why_members why.Records = why_member (codes "records")
+why_members (why.Query rule) = member (codes "rule") (word (query_rule_text rule)) (why_member (codes "query"))
+why_members why.Days = why_member (codes "days")
+why_members why.Types = why_member (codes "types")
+why_members why.Size = why_member (codes "size")
+why_members why.Number = why_member (codes "number")
+why_members why.Page = why_member (codes "page")
+why_members why.Literal = why_member (codes "literal")
 
 -- what a reply says
 abbrev pub reply_data : Reply → Data
@@ -93,7 +121,7 @@ reply_data (Paged shown more) =
     object (member (codes "events") (array (items_of (map shown_data shown))) (member (codes "more") (boolean more)
     (member (codes "ok") (word (codes "page")) no_members)))
 reply_data Closed = done_data (codes "close")
-reply_data (Malformed why) = object (member (codes "error") (word (codes "malformed")) (member (codes "why") (word (why_text why)) no_members))
+reply_data (Malformed why) = object (member (codes "error") (word (codes "malformed")) (why_members why))
 reply_data NotOwned = error_data (codes "notOwned")
 reply_data NotEmpty = error_data (codes "notEmpty")
 reply_data Unanchored = error_data (codes "unanchored")

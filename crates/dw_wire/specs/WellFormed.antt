@@ -1,5 +1,5 @@
 -- When a request is well formed: each of its parts keeps its rule and its limits.
-use Rattle.std.specs.Prelude.{ℕ, ◌-◌, ◌^◌, Bool, ◌&&◌, nat_le, IsTrue, IfOk, IfSome, List, length, Result}
+use Rattle.std.specs.Prelude.{ℕ, Bool, true, ◌&&◌, nat_le, IsTrue, IfOk, IfSome, List, length, Result}
 use Rattle.std.specs.List.{AllByRecursion, list_all}
 use Rattle.std.specs.Ordering.{nat_cmp, is_le}
 use Rattle.std.specs.Cmp.Lexicographic.{slice_cmp}
@@ -10,23 +10,28 @@ use Rattle.dw_event.specs.declared.days.Days.{Days}
 use Rattle.dw_event.specs.declared.records.Record.{Record}
 use Rattle.dw_event.specs.declared.reports.BadRecord.{BadRecord}
 use Rattle.dw_vis.specs.Names.{IsAscending}
-use Rattle.dw_wire.specs.declared.request.Query.{Query}
+use Rattle.dw_event.specs.declared.types.Types.{Types}
+use Rattle.dw_event.specs.declared.types.Types.TheVariants.{All, Only}
+use Rattle.dw_jexl.specs.declared.query.Query.{Query}
+use Rattle.dw_jexl.specs.Spelling.{Spells}
+use Rattle.dw_key.specs.TypeName.{is_type_name}
 use Rattle.dw_wire.specs.declared.request.Request.{Request}
 use Rattle.dw_wire.specs.declared.request.Request.TheVariants.{Define, Grant, Ingest, Create, Page, Close}
-use Rattle.dw_wire.specs.ReadLine.{is_auth, is_caller, is_plain, written_query}
+use Rattle.dw_wire.specs.declared.limits.TheConstants.{MAX_NAMES, MAX_RECORDS, MAX_TYPES, MAX_SIZE, MAX_NUMBER, MAX_PAGE}
+use Rattle.dw_wire.specs.ReadLine.{is_auth, is_caller}
 
 -- at most 256 names of authorisations, each by its rule
 abbrev pub are_auths : List (List ℕ) → Bool
-are_auths names = nat_le (length names) 256 && list_all is_auth names
+are_auths names = nat_le (length names) MAX_NAMES && list_all is_auth names
 
 -- such names, as a set in order
 pub record IsAuthSet (names : List (List ℕ)) : Type 0 where
   pub rules : IsTrue (are_auths names)
   pub ordered : IsAscending names
 
--- a folded field, and a literal that stands between quotes as it is, at most 16,384 bytes as they are written
-abbrev pub is_query : Query → Bool
-is_query query = is_folded_name query.field && is_plain query.literal && nat_le (length (written_query query.field query.literal)) 16384
+-- some text spells the query
+abbrev pub IsSpelt : Query → Type 0
+IsSpelt query = (text : List ℕ) × Spells text query
 
 -- two days, the first not after the last
 abbrev pub are_days : Days → Bool
@@ -36,13 +41,18 @@ are_days days = names_day days.first && names_day days.last && is_le (slice_cmp 
 abbrev pub is_counted_to : ℕ → ℕ → Bool
 is_counted_to most n = nat_le 1 n && nat_le n most
 
+-- all types, or 1 to 64 of them
+abbrev pub are_types : Types → Bool
+are_types All = true
+are_types (Only types) = is_counted_to MAX_TYPES (length types) && list_all is_type_name types
+
 -- the number of a query: it fits in 63 bits
 abbrev pub is_query_number : ℕ → Bool
-is_query_number number = is_counted_to (2 ^ 63 - 1) number
+is_query_number number = is_counted_to MAX_NUMBER number
 
 -- at most 10,000 records, of which each that was read is well formed
 pub record IsBatch (recs : List (Result Record BadRecord)) : Type 0 where
-  pub few : IsTrue (nat_le (length recs) 10000)
+  pub few : IsTrue (nat_le (length recs) MAX_RECORDS)
   pub each : AllByRecursion (λ rec. IfOk rec records.IsWellFormed) recs
 
 -- a request whose parts keep their rules
@@ -50,7 +60,7 @@ abbrev pub IsWellFormed : Request → Type 0
 IsWellFormed (Define field rule) = IsTrue (is_folded_name field)
 IsWellFormed (Grant caller auths) = IsTrue (is_caller caller) × IsAuthSet auths
 IsWellFormed (Ingest recs) = IsBatch recs
-IsWellFormed (Create caller query days size asked) =
-    IsTrue (is_caller caller && is_query query && are_days days && is_counted_to 1000 size) × IfSome asked IsAuthSet
-IsWellFormed (Page caller number page) = IsTrue (is_caller caller && is_query_number number && is_counted_to 4294967295 page)
+IsWellFormed (Create caller query days types size asked) =
+    IsTrue (is_caller caller && are_days days && are_types types && is_counted_to MAX_SIZE size) × IsSpelt query × IfSome asked IsAuthSet
+IsWellFormed (Page caller number page) = IsTrue (is_caller caller && is_query_number number && is_counted_to MAX_PAGE page)
 IsWellFormed (Close caller number) = IsTrue (is_caller caller && is_query_number number)

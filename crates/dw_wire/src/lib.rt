@@ -1,6 +1,8 @@
 //! The texts of the service: which request a line is, and the text of a reply.
 #![tactic(auto)]
 
+mod laws;
+mod limits;
 mod reading;
 mod records;
 mod reply;
@@ -8,8 +10,14 @@ mod request;
 mod writing;
 
 pub use dw_base::OutOfMemory;
-pub use reading::{MAX_LINE, read_line};
+pub use dw_jexl::{Query, QueryRule};
+pub use laws::queries_are_spelt;
+pub use limits::MAX_LINE;
+pub use reading::read_line;
 pub use records::Records;
 pub use reply::Reply;
-pub use request::{Query, Request, Why};
+pub use request::{Request, Why};
 pub use writing::{memory_line, write_reply};
+
+#[cfg(test)]
+mod tests;

@@ -4,24 +4,22 @@ ghost use Rattle.dw_wire.specs.ReadLine.{json_of, read_line as request_on};
 ghost use Rattle.dw_wire.specs.WellFormed.{IsWellFormed};
 
 mod auths;
-mod cells;
+mod batches;
+mod creates;
 mod definitions;
-mod gathered;
 mod members;
 mod queries;
-mod records;
 mod requests;
+mod tables;
 mod texts;
-mod visibilities;
+mod types;
 
 use crate::OutOfMemory;
+use crate::limits::MAX_LINE;
 use crate::reading::requests::read_request;
 use crate::request::{Request, Why};
 use serde_json::Value;
 use std::alloc::Global;
-
-/// The most bytes of a line that is read.
-pub const MAX_LINE: usize = 4_194_304;
 
 /// The value of a text in JSON, by RFC 8259. None where the bytes are no UTF-8 or no such text.
 fn parse(alloc: Global, line: &[u8]) -> Result<Option<Value>, OutOfMemory>
@@ -42,19 +40,16 @@ fn read(alloc: Global, line: &[u8]) -> Result<Result<Request, Why>, OutOfMemory>
     ensures { IfOk result (λ r. r ≡ request_on line.now) }
 {
     if line.len() > MAX_LINE {
-        return Ok(Err(Why::Unbuilt));
+        return Ok(Err(Why::Line));
     }
     let value = match parse(alloc, line)? {
         Some(value) => value,
-        None => return Ok(Err(Why::Unbuilt)),
+        None => return Ok(Err(Why::Json)),
     };
-    match read_request(alloc, &value)? {
-        Some(request) => Ok(Ok(request)),
-        None => Ok(Err(Why::Unbuilt)),
-    }
+    read_request(alloc, &value)
 }
 
-/// The request that a line is, which is well formed, or why it is none. A line of more than 4,194,304 bytes
+/// The request that a line is, which is well formed, or the first reason why it is none. A line of more than 4,194,304 bytes
 /// is not read.
 pub fn read_line(alloc: Global, line: &[u8]) -> Result<Result<Request, Why>, OutOfMemory>
     ensures is { IfOk result (λ r. r ≡ request_on line.now) }

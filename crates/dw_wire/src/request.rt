@@ -1,10 +1,8 @@
-ghost use Rattle.std.specs.Prelude.{◌≡◌, IfOk};
-
-use crate::OutOfMemory;
 use crate::records::Records;
 use dw_base::Text;
 use dw_dict::FieldRule;
-use dw_event::Days;
+use dw_event::{Days, Types};
+use dw_jexl::{Query, QueryRule};
 use dw_vis::Auths;
 
 /// What a line asks for.
@@ -24,12 +22,13 @@ pub enum Request {
     Ingest {
         records: Records,
     },
-    /// Opens a query of the events that are held now, for the granted names, or for those of them that are
-    /// asked for.
+    /// Opens a query of the events that are held now, of these days and types, for the granted names, or for
+    /// those of them that are asked for.
     Create {
         caller: Text,
         query: Query,
         days: Days,
+        types: Types,
         size: u32,
         auths: Option<Auths>,
     },
@@ -46,29 +45,38 @@ pub enum Request {
     },
 }
 
-/// Why a line is no request.
+/// Why a line is no request: the first of these, in this order, that holds.
 #[derive(Clone, Copy, Debug, PartialEq, Eq)]
 pub enum Why {
-    /// The line is of no form that is built.
-    Unbuilt,
-    /// A literal is refused by the kind of its field, or holds a byte 0.
+    /// The line has more than 4,194,304 bytes.
+    Line,
+    /// The line is no text of JSON, by RFC 8259.
+    Json,
+    /// It is no object of the members of a request, each of its JSON type.
+    Shape,
+    /// The caller is not 1 to 128 visible ASCII characters.
+    Caller,
+    /// The name of the field breaks its rule.
+    Field,
+    /// There is no such kind, or the field is to be reversed without being indexed.
+    Kind,
+    /// A name of an authorisation has not 1 to 512 bytes or a byte 0, or there are more than 256.
+    Auths,
+    /// There are more than 10,000 records.
+    Records,
+    /// The text of a query breaks this rule first.
+    Query { rule: QueryRule },
+    /// A date names no day, or the first day is after the last.
+    Days,
+    /// A type breaks its rule, or there are not 1 to 64 of them.
+    Types,
+    /// The size of a page is not 1 to 1,000.
+    Size,
+    /// The number of the query is not 1 to 2^63 - 1.
+    Number,
+    /// The number of the page is not 1 to 4,294,967,295.
+    Page,
+    /// A literal is refused by the kind of its field, or holds a byte 0, or a wildcard is asked of a field of
+    /// numbers, dates or addresses.
     Literal,
-}
-
-/// A query: some visible value of the field is the literal.
-#[derive(Debug, Drop, PartialEq, Eq)]
-pub struct Query {
-    pub field: Text,
-    pub literal: Text,
-}
-
-impl Query {
-    pub fn copy(&self) -> Result<Query, OutOfMemory>
-        ensures { IfOk result (λ q. q ≡ self.now) }
-    {
-        Ok(Query {
-            field: self.field.copy()?,
-            literal: self.literal.copy()?,
-        })
-    }
 }

@@ -5,13 +5,14 @@ ghost use Rattle.serde_json.specs.Data.{array, boolean, number, object, unsigned
 ghost use Rattle.serde_json.specs.View.{items_of};
 ghost use Rattle.serde_json.specs.Written.{members_outline};
 ghost use Rattle.hex.specs.Hex.{encode_lower};
-ghost use Rattle.dw_wire.specs.ReplyText.{bad_data, bad_data_at, done_data, error_data, fields_data, reply_data, reply_text, rule_text, shown_data, why_text, word};
+ghost use Rattle.dw_wire.specs.ReplyText.{bad_data, bad_data_at, done_data, error_data, fields_data, reply_data, reply_text, query_rule_text, rule_text, shown_data, why_member, why_members, word};
 ghost use Rattle.dw_wire.specs.ReplyTokens.{Adds, closing, data_tokens, member_tokens, opening};
 
 use crate::OutOfMemory;
 use crate::reply::Reply;
 use crate::request::Why;
 use dw_event::{Bad, BadReason, BadRecord, Pair, Place, Report, Shown};
+use dw_jexl::QueryRule;
 use dw_key::{Bytes, DType, DocKey, Text};
 use json::Writer;
 use std::alloc::Global;
@@ -76,12 +77,56 @@ fn put_error(out: &mut Writer, name: &str) -> Result<(), OutOfMemory>
     Ok(())
 }
 
-fn why_name(why: Why) -> &'static str
-    ensures { result.now ≡ why_text why }
+// The name of a rule on queries.
+fn query_rule_name(rule: QueryRule) -> &'static str
+    ensures { result.now ≡ query_rule_text rule }
+{
+    match rule {
+        QueryRule::TooLong => "tooLong",
+        QueryRule::TooDeep => "tooDeep",
+        QueryRule::Syntax => "syntax",
+        QueryRule::TooMany => "tooMany",
+        QueryRule::Pattern => "pattern",
+    }
+}
+
+// The member that says why, and the end of its object.
+fn put_reason(out: &mut Writer, name: &str) -> Result<(), OutOfMemory>
+    ensures { Adds result out.old out.new (members_tokens (members_outline (why_member name.now))) }
+{
+    put_text(out, "why", name)?;
+    out.end_object()?;
+    Ok(())
+}
+
+fn put_query_rule(out: &mut Writer, rule: QueryRule) -> Result<(), OutOfMemory>
+    ensures { Adds result out.old out.new (members_tokens (members_outline (why_members (Why.Query rule)))) }
+{
+    put_text(out, "rule", query_rule_name(rule))?;
+    put_reason(out, "query")?;
+    Ok(())
+}
+
+// The members that say why, and the end of their object.
+fn put_why(out: &mut Writer, why: Why) -> Result<(), OutOfMemory>
+    ensures { Adds result out.old out.new (members_tokens (members_outline (why_members why))) }
 {
     match why {
-        Why::Unbuilt => "unbuilt",
-        Why::Literal => "literal",
+        Why::Line => put_reason(out, "line"),
+        Why::Json => put_reason(out, "json"),
+        Why::Shape => put_reason(out, "shape"),
+        Why::Caller => put_reason(out, "caller"),
+        Why::Field => put_reason(out, "field"),
+        Why::Kind => put_reason(out, "kind"),
+        Why::Auths => put_reason(out, "auths"),
+        Why::Records => put_reason(out, "records"),
+        Why::Query { rule } => put_query_rule(out, rule),
+        Why::Days => put_reason(out, "days"),
+        Why::Types => put_reason(out, "types"),
+        Why::Size => put_reason(out, "size"),
+        Why::Number => put_reason(out, "number"),
+        Why::Page => put_reason(out, "page"),
+        Why::Literal => put_reason(out, "literal"),
     }
 }
 
@@ -90,8 +135,7 @@ fn put_malformed(out: &mut Writer, why: Why) -> Result<(), OutOfMemory>
 {
     out.begin_object()?;
     put_text(out, "error", "malformed")?;
-    put_text(out, "why", why_name(why))?;
-    out.end_object()?;
+    put_why(out, why)?;
     Ok(())
 }
 

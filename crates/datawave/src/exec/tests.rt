@@ -33,13 +33,14 @@ fn ends_after(alloc: Global, left: &str) -> Result<(Status, Bytes), OutOfMemory>
 
 #[test]
 fn a_byte_too_many_ends_the_run(rt: HostRuntime) -> Result<(), Fail> {
-    let unbuilt = "{\"error\":\"malformed\",\"why\":\"unbuilt\"}\n";
+    let shape = "{\"error\":\"malformed\",\"why\":\"shape\"}\n";
+    let json = "{\"error\":\"malformed\",\"why\":\"json\"}\n";
     let (status, written) = ends_after(rt.alloc(), "[]\n[")?;
     assert!(rt; status == Status::Done);
-    assert!(rt; written.as_slice().len() == 2 * unbuilt.len());
+    assert!(rt; written.as_slice().len() == shape.len() + json.len());
     let (status, written) = ends_after(rt.alloc(), "[]\n[]")?;
     assert!(rt; status == Status::TooMuch);
-    assert!(rt; written.as_slice() == unbuilt.as_bytes());
+    assert!(rt; written.as_slice() == shape.as_bytes());
     Ok(())
 }
 

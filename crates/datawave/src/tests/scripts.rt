@@ -40,7 +40,7 @@ pub const PLAIN: Script = Script {
 {"error":"notOwned"}
 {"ok":"grant"}
 {"number":2,"ok":"create"}
-{"error":"malformed","why":"unbuilt"}
+{"error":"malformed","why":"shape"}
 "#,
 };
 
@@ -242,7 +242,7 @@ pub const DICTIONARY: Script = Script {
 pub const WIDENING: Script = Script {
     requests: r#"{"op":"define","field":"A","kind":"NOOP","indexed":true,"reversed":false}
 {"op":"ingest","records":[{"type":"lab","date":"20240101","fields":{"A":"1","U":"a","ID":"0-1"}},{"type":"lab","date":"20240101","fields":{"A":"1","U":"b","ID":"0-2"}}]}
-{"op":"create","caller":"ann","query":"A == '1'","from":"20240101","to":"20240101"}
+{"op":"create","caller":"ann","query":"A == '1' && U == 'a'","from":"20240101","to":"20240101"}
 {"op":"create","caller":"ann","query":"U == 'a'","from":"20240101","to":"20240101"}
 {"op":"define","field":"U","kind":"TEXT","indexed":true,"reversed":false}
 {"op":"create","caller":"ann","query":"U == 'a'","from":"20240101","to":"20240101"}
@@ -259,7 +259,7 @@ pub const WIDENING: Script = Script {
 {"ok":"define"}
 {"number":2,"ok":"create"}
 {"events":[{"fields":{"A":["1"],"ID":["0-1"],"U":["a"]},"shard":"20240101_0","type":"lab","uid":"0000000000000000000000000000000000000000000000000000000000000001"}],"more":false,"ok":"page"}
-{"events":[{"fields":{"A":["1"],"ID":["0-1"],"U":["a"]},"shard":"20240101_0","type":"lab","uid":"0000000000000000000000000000000000000000000000000000000000000001"},{"fields":{"A":["1"],"ID":["0-2"],"U":["b"]},"shard":"20240101_0","type":"lab","uid":"0000000000000000000000000000000000000000000000000000000000000002"}],"more":false,"ok":"page"}
+{"events":[{"fields":{"A":["1"],"ID":["0-1"],"U":["a"]},"shard":"20240101_0","type":"lab","uid":"0000000000000000000000000000000000000000000000000000000000000001"}],"more":false,"ok":"page"}
 {"error":"notEmpty"}
 {"error":"notEmpty"}
 {"ok":"define"}
@@ -267,8 +267,126 @@ pub const WIDENING: Script = Script {
 "#,
 };
 
+/// A range of numbers, which one value of several may meet.
+pub const RANGES: Script = Script {
+    requests: r#"{"op":"define","field":"N","kind":"NUMBER","indexed":true,"reversed":false}
+{"op":"ingest","records":[{"type":"lab","date":"20240101","fields":{"N":"-2","ID":"0-1"}},{"type":"lab","date":"20240101","fields":{"N":"10","ID":"0-2"}},{"type":"lab","date":"20240101","fields":{"N":["9","abc"],"ID":"0-3"}}]}
+{"op":"create","caller":"ann","query":"((_Bounded_ = true) && (N >= -2 && N < 10))","from":"20240101","to":"20240101"}
+{"op":"page","caller":"ann","number":1,"page":1}"#,
+    replies: r#"{"ok":"define"}
+{"bad":[],"new":3,"ok":"ingest","repeat":0}
+{"number":1,"ok":"create"}
+{"events":[{"fields":{"ID":["0-1"],"N":["-2"]},"shard":"20240101_0","type":"lab","uid":"0000000000000000000000000000000000000000000000000000000000000001"},{"fields":{"ID":["0-3"],"N":["9","abc"]},"shard":"20240101_0","type":"lab","uid":"0000000000000000000000000000000000000000000000000000000000000003"}],"more":false,"ok":"page"}
+"#,
+};
+
+/// Two comparisons that two values meet, and a range that neither does.
+pub const SEVERAL_VALUES: Script = Script {
+    requests: r#"{"op":"define","field":"K","kind":"NOOP","indexed":true,"reversed":false}
+{"op":"define","field":"X","kind":"NUMBER","indexed":true,"reversed":false}
+{"op":"ingest","records":[{"type":"lab","date":"20240101","fields":{"K":"k","X":["1","9"],"ID":"0-1"}}]}
+{"op":"create","caller":"ann","query":"K == 'k' && X >= 3 && X <= 5","from":"20240101","to":"20240101"}
+{"op":"page","caller":"ann","number":1,"page":1}
+{"op":"create","caller":"ann","query":"((_Bounded_ = true) && (X >= 3 && X <= 5))","from":"20240101","to":"20240101"}
+{"op":"page","caller":"ann","number":2,"page":1}"#,
+    replies: r#"{"ok":"define"}
+{"ok":"define"}
+{"bad":[],"new":1,"ok":"ingest","repeat":0}
+{"number":1,"ok":"create"}
+{"events":[{"fields":{"ID":["0-1"],"K":["k"],"X":["1","9"]},"shard":"20240101_0","type":"lab","uid":"0000000000000000000000000000000000000000000000000000000000000001"}],"more":false,"ok":"page"}
+{"number":2,"ok":"create"}
+{"events":[],"more":false,"ok":"page"}
+"#,
+};
+
+/// A negation of what one reader sees and the other does not.
+pub const HIDDEN_UNDER_NEGATION: Script = Script {
+    requests: r#"{"op":"define","field":"F","kind":"NOOP","indexed":true,"reversed":false}
+{"op":"define","field":"G","kind":"NOOP","indexed":true,"reversed":false}
+{"op":"grant","caller":"ann","auths":["S"]}
+{"op":"ingest","records":[{"type":"lab","date":"20240101","fields":{"G":"x","F":{"value":"a","vis":"S"},"ID":"0-1"}}]}
+{"op":"create","caller":"ann","query":"G == 'x' && !(F == 'a')","from":"20240101","to":"20240101"}
+{"op":"page","caller":"ann","number":1,"page":1}
+{"op":"create","caller":"bob","query":"G == 'x' && !(F == 'a')","from":"20240101","to":"20240101"}
+{"op":"page","caller":"bob","number":1,"page":1}"#,
+    replies: r#"{"ok":"define"}
+{"ok":"define"}
+{"ok":"grant"}
+{"bad":[],"new":1,"ok":"ingest","repeat":0}
+{"number":1,"ok":"create"}
+{"events":[],"more":false,"ok":"page"}
+{"number":1,"ok":"create"}
+{"events":[{"fields":{"G":["x"],"ID":["0-1"]},"shard":"20240101_0","type":"lab","uid":"0000000000000000000000000000000000000000000000000000000000000001"}],"more":false,"ok":"page"}
+"#,
+};
+
+/// A negation in a negation, over values that one reader does not see.
+pub const NESTED_NEGATION: Script = Script {
+    requests: r#"{"op":"define","field":"A","kind":"NOOP","indexed":true,"reversed":false}
+{"op":"define","field":"B","kind":"NOOP","indexed":true,"reversed":false}
+{"op":"define","field":"C","kind":"NOOP","indexed":true,"reversed":false}
+{"op":"grant","caller":"ann","auths":["S"]}
+{"op":"ingest","records":[{"type":"lab","date":"20240101","fields":{"A":"1","C":{"value":"3","vis":"S"},"ID":"0-1"}},{"type":"lab","date":"20240101","fields":{"A":"1","C":"3","ID":"0-2"}},{"type":"lab","date":"20240101","fields":{"A":"1","B":{"value":"2","vis":"S"},"C":"3","ID":"0-3"}}]}
+{"op":"create","caller":"ann","query":"A == '1' && !(B == '2' || !(C == '3'))","from":"20240101","to":"20240101"}
+{"op":"page","caller":"ann","number":1,"page":1}
+{"op":"create","caller":"bob","query":"A == '1' && !(B == '2' || !(C == '3'))","from":"20240101","to":"20240101"}
+{"op":"page","caller":"bob","number":1,"page":1}"#,
+    replies: r#"{"ok":"define"}
+{"ok":"define"}
+{"ok":"define"}
+{"ok":"grant"}
+{"bad":[],"new":3,"ok":"ingest","repeat":0}
+{"number":1,"ok":"create"}
+{"events":[{"fields":{"A":["1"],"C":["3"],"ID":["0-1"]},"shard":"20240101_0","type":"lab","uid":"0000000000000000000000000000000000000000000000000000000000000001"},{"fields":{"A":["1"],"C":["3"],"ID":["0-2"]},"shard":"20240101_0","type":"lab","uid":"0000000000000000000000000000000000000000000000000000000000000002"}],"more":false,"ok":"page"}
+{"number":1,"ok":"create"}
+{"events":[{"fields":{"A":["1"],"C":["3"],"ID":["0-2"]},"shard":"20240101_0","type":"lab","uid":"0000000000000000000000000000000000000000000000000000000000000002"},{"fields":{"A":["1"],"C":["3"],"ID":["0-3"]},"shard":"20240101_0","type":"lab","uid":"0000000000000000000000000000000000000000000000000000000000000003"}],"more":false,"ok":"page"}
+"#,
+};
+
+/// Queries to whose answers no index leads, and others.
+pub const ANCHORS: Script = Script {
+    requests: r#"{"op":"define","field":"A","kind":"NOOP","indexed":true,"reversed":false}
+{"op":"create","caller":"ann","query":"!(A == '1')","from":"20240101","to":"20240101"}
+{"op":"create","caller":"ann","query":"A =~ '.*x.*'","from":"20240101","to":"20240101"}
+{"op":"create","caller":"ann","query":"A >= '1'","from":"20240101","to":"20240101"}
+{"op":"create","caller":"ann","query":"A == '1' || U == '2'","from":"20240101","to":"20240101"}
+{"op":"create","caller":"ann","query":"A == '1' && U == '2'","from":"20240101","to":"20240101"}
+{"op":"page","caller":"ann","number":1,"page":1}
+{"op":"create","caller":"ann","query":"!(!(A == '1'))","from":"20240101","to":"20240101"}
+{"op":"page","caller":"ann","number":2,"page":1}
+{"op":"create","caller":"ann","query":"A == ''","from":"20240101","to":"20240101"}"#,
+    replies: r#"{"ok":"define"}
+{"error":"unanchored"}
+{"error":"unanchored"}
+{"error":"unanchored"}
+{"error":"unanchored"}
+{"number":1,"ok":"create"}
+{"events":[],"more":false,"ok":"page"}
+{"number":2,"ok":"create"}
+{"events":[],"more":false,"ok":"page"}
+{"error":"malformed","why":"literal"}
+"#,
+};
+
+/// A pattern with its wildcard before the text.
+pub const LEADING_WILDCARD: Script = Script {
+    requests: r#"{"op":"define","field":"NAME","kind":"TEXT","indexed":true,"reversed":true}
+{"op":"define","field":"B","kind":"NOOP","indexed":true,"reversed":false}
+{"op":"ingest","records":[{"type":"lab","date":"20240101","fields":{"NAME":"Jackson","ID":"0-1"}}]}
+{"op":"create","caller":"ann","query":"NAME =~ '.*son'","from":"20240101","to":"20240101"}
+{"op":"page","caller":"ann","number":1,"page":1}
+{"op":"create","caller":"ann","query":"B =~ '.*son'","from":"20240101","to":"20240101"}"#,
+    replies: r#"{"ok":"define"}
+{"ok":"define"}
+{"bad":[],"new":1,"ok":"ingest","repeat":0}
+{"number":1,"ok":"create"}
+{"events":[{"fields":{"ID":["0-1"],"NAME":["Jackson"]},"shard":"20240101_0","type":"lab","uid":"0000000000000000000000000000000000000000000000000000000000000001"}],"more":false,"ok":"page"}
+{"error":"unanchored"}
+"#,
+};
+
 /// All of them.
-pub const ALL: [Script; 12] = [
+pub const ALL: [Script; 18] = [
     PLAIN,
     REPEATS,
     CLASH,
@@ -281,4 +399,10 @@ pub const ALL: [Script; 12] = [
     NUMBERS,
     DICTIONARY,
     WIDENING,
+    RANGES,
+    SEVERAL_VALUES,
+    HIDDEN_UNDER_NEGATION,
+    NESTED_NEGATION,
+    ANCHORS,
+    LEADING_WILDCARD,
 ];

@@ -1,17 +1,15 @@
-ghost use Rattle.std.specs.Prelude.{◌≡◌, [], Some, IfOk, codes, option_map, option_and_then};
+ghost use Rattle.std.specs.Prelude.{◌≡◌, [], Some, IfOk, option_map, option_and_then};
 ghost use Rattle.serde_json.specs.Find.{as_str};
 ghost use Rattle.serde_json.specs.View.{view, items_view};
-ghost use Rattle.dw_wire.specs.ReadLine.{guarded, array_at, is_auth, with_auths, auths_of, asked_of};
+ghost use Rattle.dw_rows.specs.Values.{guarded};
+ghost use Rattle.dw_wire.specs.ReadLine.{is_auth, with_auths, auths_of, asked_auths as asked};
 
 use crate::OutOfMemory;
-use crate::reading::members::list_member;
+use crate::limits::MAX_NAMES;
 use crate::reading::texts::names_auth;
 use dw_vis::Auths;
 use serde_json::Value;
 use std::alloc::Global;
-
-/// The most names of a list, as they are written.
-const MAX_NAMES: usize = 256;
 
 fn auth_name(value: &Value) -> Option<&str>
     ensures { option_map (λ s. s.now) result ≡ option_and_then (λ name. guarded (is_auth name) (Some name)) (as_str (view value.now)) }
@@ -36,8 +34,10 @@ fn put_auths(alloc: Global, items: &[Value]) -> Result<Option<Auths>, OutOfMemor
     Ok(Some(auths))
 }
 
-#[tactic(auto, using(crate::proofs::ReadingRecords::counted))]
-fn read_auths(alloc: Global, items: &[Value]) -> Result<Option<Auths>, OutOfMemory>
+/// The set of the names of a list of texts: at most 256 as they are written, each of 1 to 512 bytes, none of
+/// them 0. None where it breaks a limit.
+#[tactic(auto, using(crate::proofs::Counting::counted))]
+pub fn read_auths(alloc: Global, items: &[Value]) -> Result<Option<Auths>, OutOfMemory>
     ensures { IfOk result (λ o. o ≡ auths_of (items_view items.now)) }
 {
     if items.len() > MAX_NAMES {
@@ -46,26 +46,17 @@ fn read_auths(alloc: Global, items: &[Value]) -> Result<Option<Auths>, OutOfMemo
     put_auths(alloc, items)
 }
 
-/// The set of the names that the member `auths` lists, at most 256 as they are written, each of 1 to 512
-/// bytes, none of them 0. None where it is no such list.
-pub fn member_auths(alloc: Global, value: &Value) -> Result<Option<Auths>, OutOfMemory>
-    ensures { IfOk result (λ o. o ≡ option_and_then auths_of (array_at (codes "auths") (view value.now))) }
+/// The names that are asked for, where a list of them is given. None where it breaks a limit.
+pub fn asked_auths(
+    alloc: Global,
+    items: Option<&Vec<Value>>,
+) -> Result<Option<Option<Auths>>, OutOfMemory>
+    ensures { IfOk result (λ o. o ≡ asked (option_map (λ v. items_view v.now.items) items.entry)) }
 {
-    match list_member(value, "auths") {
-        Some(items) => read_auths(alloc, items.as_slice()),
-        None => Ok(None),
-    }
-}
-
-/// The names that are asked for: `Some(None)` where the member is not there, and None where it is no list
-/// of names.
-pub fn asked_auths(alloc: Global, value: &Value) -> Result<Option<Option<Auths>>, OutOfMemory>
-    ensures { IfOk result (λ o. o ≡ asked_of (view value.now)) }
-{
-    if value.get("auths").is_none() {
+    let Some(items) = items else {
         return Ok(Some(None));
-    }
-    match member_auths(alloc, value)? {
+    };
+    match read_auths(alloc, items.as_slice())? {
         Some(auths) => Ok(Some(Some(auths))),
         None => Ok(None),
     }

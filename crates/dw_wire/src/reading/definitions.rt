@@ -1,13 +1,11 @@
 ghost use Rattle.std.specs.Prelude.{◌≡◌, IfOk};
-ghost use Rattle.serde_json.specs.View.{view};
-ghost use Rattle.dw_wire.specs.ReadLine.{field_at, kind_of, rule_at};
+ghost use Rattle.dw_rows.specs.Entries.{field_of};
+ghost use Rattle.dw_wire.specs.ReadLine.{kind_of, rule_of};
 
 use crate::OutOfMemory;
-use crate::reading::members::{bool_member, text_member};
 use dw_base::{Text, is_field_name};
 use dw_dict::FieldRule;
 use dw_norm::Kind;
-use serde_json::Value;
 use std::alloc::Global;
 
 fn kind_named(name: &str) -> Option<Kind>
@@ -31,28 +29,21 @@ fn kind_named(name: &str) -> Option<Kind>
     None
 }
 
-/// The rule that a definition gives: a kind by its name and two truth values, `reversed` only with
-/// `indexed`.
-pub fn member_rule(value: &Value) -> Option<FieldRule>
-    ensures { result ≡ rule_at (view value.now) }
+/// The rule of a kind by its name, to be reversed only where it is indexed.
+pub fn read_rule(kind: &str, indexed: bool, reversed: bool) -> Option<FieldRule>
+    ensures { result ≡ rule_of kind.now indexed reversed }
 {
-    let name = text_member(value, "kind")?;
-    let kind = kind_named(name)?;
-    let indexed = bool_member(value, "indexed")?;
-    let reversed = bool_member(value, "reversed")?;
+    let kind = kind_named(kind)?;
     FieldRule::of(kind, indexed, reversed)
 }
 
-/// The name of a field that the member `field` is, in upper case.
-pub fn member_field(alloc: Global, value: &Value) -> Result<Option<Text>, OutOfMemory>
-    ensures { IfOk result (λ o. o ≡ field_at (view value.now)) }
+/// The field of a name, in upper case.
+pub fn read_field(alloc: Global, name: &str) -> Result<Option<Text>, OutOfMemory>
+    ensures { IfOk result (λ o. o ≡ field_of name.now) }
 {
-    let name = match text_member(value, "field") {
-        Some(name) => name,
-        None => return Ok(None),
-    };
     if !is_field_name(name) {
         return Ok(None);
     }
-    Ok(Some(Text::from_string(name.to_ascii_uppercase(alloc)?)))
+    let field = name.to_ascii_uppercase(alloc)?;
+    Ok(Some(Text::from_string(field)))
 }

@@ -1,208 +1,198 @@
-ghost use Rattle.std.specs.Prelude.{◌≡◌, ◌≤◌, IfOk, IfSome, option_map};
-ghost use Rattle.serde_json.specs.View.{view};
-ghost use Rattle.dw_wire.specs.ReadLine.{ingest_of, size_of, caller_of, query_at, days_at, query_number, define_of, grant_of, create_of, page_of, close_of, request_named, request_of};
+ghost use Rattle.std.specs.Prelude.{◌≡◌, IfOk, option_map};
+ghost use Rattle.serde_json.specs.View.{view, items_view};
+ghost use Rattle.dw_wire.specs.ReadLine.{define_with, define_of, grant_with, grant_of, ingest_with, ingest_of, page_with, page_of, close_with, close_of, request_named, request_of};
 
 use crate::OutOfMemory;
-use crate::reading::auths::{asked_auths, member_auths};
-use crate::reading::definitions::{member_field, member_rule};
-use crate::reading::members::{is_object_of, list_member, number_member, text_member};
-use crate::reading::queries::{read_days, read_query};
-use crate::reading::records::read_batch;
-use crate::reading::texts::names_caller;
-use crate::request::{Query, Request};
-use dw_event::Days;
-use dw_key::Text;
+use crate::limits::{MAX_NUMBER, MAX_PAGE};
+use crate::reading::auths::read_auths;
+use crate::reading::batches::read_batch;
+use crate::reading::creates::create;
+use crate::reading::definitions::{read_field, read_rule};
+use crate::reading::members::{bool_member, counted_to, list_member, texts_member, whole_member};
+use crate::reading::tables::read_table;
+use crate::reading::texts::read_caller;
+use crate::records::Records;
+use crate::request::{Request, Why};
+use dw_rows::{is_object_of, text_member};
 use serde_json::Value;
 use std::alloc::Global;
 
-/// The most events of a page.
-const MAX_SIZE: u64 = 1000;
-
-/// The most pages that can be asked for.
-const MAX_PAGE: u64 = 4_294_967_295;
-
-/// The greatest number of a query.
-const MAX_NUMBER: u64 = 9_223_372_036_854_775_807;
-
-fn ingest(alloc: Global, value: &Value) -> Result<Option<Request>, OutOfMemory>
-    ensures { IfOk result (λ o. o ≡ ingest_of (view value.now)) }
+fn define_as(
+    alloc: Global,
+    name: &str,
+    kind: &str,
+    indexed: bool,
+    reversed: bool,
+) -> Result<Result<Request, Why>, OutOfMemory>
+    ensures { IfOk result (λ r. r ≡ define_with name.now kind.now indexed reversed) }
 {
-    if !is_object_of(&["op", "records"], value) {
-        return Ok(None);
-    }
-    let items = match list_member(value, "records") {
-        Some(items) => items,
-        None => return Ok(None),
+    let Some(field) = read_field(alloc, name)? else {
+        return Ok(Err(Why::Field));
     };
-    match read_batch(alloc, items.as_slice())? {
-        Some(records) => Ok(Some(Request::Ingest { records })),
-        None => Ok(None),
+    match read_rule(kind, indexed, reversed) {
+        Some(rule) => Ok(Ok(Request::Define { field, rule })),
+        None => Ok(Err(Why::Kind)),
     }
 }
 
-/// The size of a page: 10 where it is not said.
-fn page_size(value: &Value) -> Option<u32>
-    ensures { result ≡ size_of (view value.now) }
-{
-    if value.get("size").is_none() {
-        return Some(10);
-    }
-    let size = number_member(value, "size", MAX_SIZE)?;
-    Some(size as u32)
-}
-
-fn caller(alloc: Global, value: &Value) -> Result<Option<Text>, OutOfMemory>
-    ensures { IfOk result (λ o. o ≡ caller_of (view value.now)) }
-{
-    let name = match text_member(value, "caller") {
-        Some(name) => name,
-        None => return Ok(None),
-    };
-    if !names_caller(name) {
-        return Ok(None);
-    }
-    Ok(Some(Text::of(alloc, name)?))
-}
-
-fn query(alloc: Global, value: &Value) -> Result<Option<Query>, OutOfMemory>
-    ensures { IfOk result (λ o. o ≡ query_at (view value.now)) }
-{
-    match text_member(value, "query") {
-        Some(text) => read_query(alloc, text),
-        None => Ok(None),
-    }
-}
-
-fn days(alloc: Global, value: &Value) -> Result<Option<Days>, OutOfMemory>
-    ensures { IfOk result (λ o. o ≡ days_at (view value.now)) }
-{
-    let first = match text_member(value, "from") {
-        Some(first) => first,
-        None => return Ok(None),
-    };
-    match text_member(value, "to") {
-        Some(last) => read_days(alloc, first, last),
-        None => Ok(None),
-    }
-}
-
-fn define(alloc: Global, value: &Value) -> Result<Option<Request>, OutOfMemory>
-    ensures { IfOk result (λ o. o ≡ define_of (view value.now)) }
+fn define(alloc: Global, value: &Value) -> Result<Result<Request, Why>, OutOfMemory>
+    ensures { IfOk result (λ r. r ≡ define_of (view value.now)) }
 {
     if !is_object_of(&["op", "field", "kind", "indexed", "reversed"], value) {
-        return Ok(None);
+        return Ok(Err(Why::Shape));
     }
-    let field = match member_field(alloc, value)? {
-        Some(field) => field,
-        None => return Ok(None),
+    let Some(name) = text_member(value, "field") else {
+        return Ok(Err(Why::Shape));
     };
-    match member_rule(value) {
-        Some(rule) => Ok(Some(Request::Define { field, rule })),
-        None => Ok(None),
+    let Some(kind) = text_member(value, "kind") else {
+        return Ok(Err(Why::Shape));
+    };
+    let Some(indexed) = bool_member(value, "indexed") else {
+        return Ok(Err(Why::Shape));
+    };
+    let Some(reversed) = bool_member(value, "reversed") else {
+        return Ok(Err(Why::Shape));
+    };
+    define_as(alloc, name, kind, indexed, reversed)
+}
+
+fn grant_as(
+    alloc: Global,
+    caller: &str,
+    names: &[Value],
+) -> Result<Result<Request, Why>, OutOfMemory>
+    ensures { IfOk result (λ r. r ≡ grant_with caller.now (items_view names.now)) }
+{
+    let Some(caller) = read_caller(alloc, caller)? else {
+        return Ok(Err(Why::Caller));
+    };
+    match read_auths(alloc, names)? {
+        Some(auths) => Ok(Ok(Request::Grant { caller, auths })),
+        None => Ok(Err(Why::Auths)),
     }
 }
 
-fn grant(alloc: Global, value: &Value) -> Result<Option<Request>, OutOfMemory>
-    ensures { IfOk result (λ o. o ≡ grant_of (view value.now)) }
+fn grant(alloc: Global, value: &Value) -> Result<Result<Request, Why>, OutOfMemory>
+    ensures { IfOk result (λ r. r ≡ grant_of (view value.now)) }
 {
     if !is_object_of(&["op", "caller", "auths"], value) {
-        return Ok(None);
+        return Ok(Err(Why::Shape));
     }
-    let caller = match caller(alloc, value)? {
-        Some(caller) => caller,
-        None => return Ok(None),
+    let Some(caller) = text_member(value, "caller") else {
+        return Ok(Err(Why::Shape));
     };
-    match member_auths(alloc, value)? {
-        Some(auths) => Ok(Some(Request::Grant { caller, auths })),
-        None => Ok(None),
-    }
-}
-
-fn create(alloc: Global, value: &Value) -> Result<Option<Request>, OutOfMemory>
-    ensures { IfOk result (λ o. o ≡ create_of (view value.now)) }
-{
-    if !is_object_of(
-        &["op", "caller", "query", "from", "to", "size", "auths"],
-        value,
-    ) {
-        return Ok(None);
-    }
-    let caller = match caller(alloc, value)? {
-        Some(caller) => caller,
-        None => return Ok(None),
-    };
-    let query = match query(alloc, value)? {
-        Some(query) => query,
-        None => return Ok(None),
-    };
-    let days = match days(alloc, value)? {
-        Some(days) => days,
-        None => return Ok(None),
-    };
-    let size = match page_size(value) {
-        Some(size) => size,
-        None => return Ok(None),
-    };
-    match asked_auths(alloc, value)? {
-        Some(auths) => Ok(Some(Request::Create {
-            caller,
-            query,
-            days,
-            size,
-            auths,
-        })),
-        None => Ok(None),
+    match texts_member(value, "auths") {
+        Some(names) => grant_as(alloc, caller, names.as_slice()),
+        None => Ok(Err(Why::Shape)),
     }
 }
 
-fn number_of_query(value: &Value) -> Option<u64>
-    ensures { result ≡ query_number (view value.now) }
+fn ingest_as(records: Option<Records>) -> Result<Request, Why>
+    ensures { result ≡ ingest_with records }
 {
-    number_member(value, "number", MAX_NUMBER)
+    match records {
+        Some(records) => Ok(Request::Ingest { records }),
+        None => Err(Why::Records),
+    }
 }
 
-fn page(alloc: Global, value: &Value) -> Result<Option<Request>, OutOfMemory>
-    ensures { IfOk result (λ o. o ≡ page_of (view value.now)) }
+fn ingest(alloc: Global, value: &Value) -> Result<Result<Request, Why>, OutOfMemory>
+    ensures { IfOk result (λ r. r ≡ ingest_of (view value.now)) }
 {
-    if !is_object_of(&["op", "caller", "number", "page"], value) {
-        return Ok(None);
+    if is_object_of(&["op", "records"], value) {
+        return match list_member(value, "records") {
+            Some(items) => Ok(ingest_as(read_batch(alloc, items.as_slice())?)),
+            None => Ok(Err(Why::Shape)),
+        };
     }
-    let caller = match caller(alloc, value)? {
-        Some(caller) => caller,
-        None => return Ok(None),
+    if !is_object_of(&["op", "csv"], value) {
+        return Ok(Err(Why::Shape));
+    }
+    match text_member(value, "csv") {
+        Some(text) => Ok(ingest_as(read_table(alloc, text.as_bytes())?)),
+        None => Ok(Err(Why::Shape)),
+    }
+}
+
+fn page_as(
+    alloc: Global,
+    caller: &str,
+    number: Option<u64>,
+    page: Option<u64>,
+) -> Result<Result<Request, Why>, OutOfMemory>
+    ensures { IfOk result (λ r. r ≡ page_with caller.now number page) }
+{
+    let Some(caller) = read_caller(alloc, caller)? else {
+        return Ok(Err(Why::Caller));
     };
-    let number = match number_of_query(value) {
-        Some(number) => number,
-        None => return Ok(None),
+    let Some(number) = counted_to(MAX_NUMBER, number) else {
+        return Ok(Err(Why::Number));
     };
-    match number_member(value, "page", MAX_PAGE) {
-        Some(page) => Ok(Some(Request::Page {
+    match counted_to(MAX_PAGE, page) {
+        Some(page) => Ok(Ok(Request::Page {
             caller,
             number,
             page: page as u32,
         })),
-        None => Ok(None),
+        None => Ok(Err(Why::Page)),
     }
 }
 
-fn close(alloc: Global, value: &Value) -> Result<Option<Request>, OutOfMemory>
-    ensures { IfOk result (λ o. o ≡ close_of (view value.now)) }
+fn page(alloc: Global, value: &Value) -> Result<Result<Request, Why>, OutOfMemory>
+    ensures { IfOk result (λ r. r ≡ page_of (view value.now)) }
+{
+    if !is_object_of(&["op", "caller", "number", "page"], value) {
+        return Ok(Err(Why::Shape));
+    }
+    let Some(caller) = text_member(value, "caller") else {
+        return Ok(Err(Why::Shape));
+    };
+    let Some(number) = whole_member(value, "number") else {
+        return Ok(Err(Why::Shape));
+    };
+    match whole_member(value, "page") {
+        Some(page) => page_as(alloc, caller, number, page),
+        None => Ok(Err(Why::Shape)),
+    }
+}
+
+fn close_as(
+    alloc: Global,
+    caller: &str,
+    number: Option<u64>,
+) -> Result<Result<Request, Why>, OutOfMemory>
+    ensures { IfOk result (λ r. r ≡ close_with caller.now number) }
+{
+    let Some(caller) = read_caller(alloc, caller)? else {
+        return Ok(Err(Why::Caller));
+    };
+    match counted_to(MAX_NUMBER, number) {
+        Some(number) => Ok(Ok(Request::Close { caller, number })),
+        None => Ok(Err(Why::Number)),
+    }
+}
+
+fn close(alloc: Global, value: &Value) -> Result<Result<Request, Why>, OutOfMemory>
+    ensures { IfOk result (λ r. r ≡ close_of (view value.now)) }
 {
     if !is_object_of(&["op", "caller", "number"], value) {
-        return Ok(None);
+        return Ok(Err(Why::Shape));
     }
-    let caller = match caller(alloc, value)? {
-        Some(caller) => caller,
-        None => return Ok(None),
+    let Some(caller) = text_member(value, "caller") else {
+        return Ok(Err(Why::Shape));
     };
-    match number_of_query(value) {
-        Some(number) => Ok(Some(Request::Close { caller, number })),
-        None => Ok(None),
+    match whole_member(value, "number") {
+        Some(number) => close_as(alloc, caller, number),
+        None => Ok(Err(Why::Shape)),
     }
 }
 
-fn request_of_name(alloc: Global, op: &str, value: &Value) -> Result<Option<Request>, OutOfMemory>
-    ensures { IfOk result (λ o. o ≡ request_named op.now (view value.now)) }
+fn request_of_name(
+    alloc: Global,
+    op: &str,
+    value: &Value,
+) -> Result<Result<Request, Why>, OutOfMemory>
+    ensures { IfOk result (λ r. r ≡ request_named op.now (view value.now)) }
 {
     if op == "define" {
         return define(alloc, value);
@@ -222,16 +212,16 @@ fn request_of_name(alloc: Global, op: &str, value: &Value) -> Result<Option<Requ
     if op == "close" {
         return close(alloc, value);
     }
-    Ok(None)
+    Ok(Err(Why::Shape))
 }
 
 /// The request that a value is: an object whose `op` is the name of an operation, with the members of
-/// that operation and no others. None for any other value.
-pub fn read_request(alloc: Global, value: &Value) -> Result<Option<Request>, OutOfMemory>
-    ensures { IfOk result (λ o. o ≡ request_of (view value.now)) }
+/// that operation and no others. Of any other value the first reason why it is none.
+pub fn read_request(alloc: Global, value: &Value) -> Result<Result<Request, Why>, OutOfMemory>
+    ensures { IfOk result (λ r. r ≡ request_of (view value.now)) }
 {
     match text_member(value, "op") {
         Some(op) => request_of_name(alloc, op, value),
-        None => Ok(None),
+        None => Ok(Err(Why::Shape)),
     }
 }

@@ -1,5 +1,5 @@
 use Rattle.dw_wire.specs.ReplyText.{reply_text}
-use Rattle.dw_desk.specs.Desk.{world_of}
+use Rattle.dw_desk.specs.Desk.{state_of}
 use Rattle.datawave.proofs.Requests.{answers_from}
 use Rattle.datawave.proofs.Results.{if_ok_of_err, on_err_always}
 use Rattle.datawave.proofs.exchange.answer_line.Goals as goal
@@ -10,6 +10,6 @@ returns-in_err-bytes-in_default g c = record {
   err = on_err_always c.from_residual.result
       (λ bytes e. (
         reply_text c.answer.result,
-        answers_from g.U.UidMaker.digest (world_of c.args.desk.now) (world_of c.answer.new.self) bytes c.in-Ok.request c.answer.result (c.in-Ok.ensures bytes e) c.answer.ensures,
+        answers_from g.U.UidMaker.digest (state_of c.args.desk.now) (state_of c.answer.new.self) bytes c.in-Ok.request c.answer.result (c.in-Ok.ensures bytes e) c.answer.ensures,
       ));
 }

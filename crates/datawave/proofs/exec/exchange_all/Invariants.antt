@@ -1,5 +1,5 @@
 use Rattle.std.proofs.Common.{◌≤◌, ◌+◌, ◌-◌, ℕ, List, Option}
-use Rattle.dw_desk.specs.Desk.{world_of}
+use Rattle.dw_desk.specs.Desk.{state_of}
 use Rattle.datawave.specs.Session.{max_input}
 use Rattle.datawave.specs.Exchange.{Progress}
 use Rattle.datawave.proofs.exec.exchange_all.Given as goal
@@ -10,8 +10,8 @@ invariant-loop-status g l = record {
   taken : g.S.Source.faults l.fn.input ≤ g.S.Source.faults l.input;
   put : g.O.Sink.faults l.fn.output ≤ g.O.Sink.faults l.output;
   progress : (before out : Option (List ℕ))
-      → Progress g.U.UidMaker.digest before (g.S.Source.left l.fn.input) out (g.O.Sink.taken l.fn.output) (world_of l.fn.talk.desk) l.fn.talk.line l.fn.talk.total
-      → Progress g.U.UidMaker.digest before (g.S.Source.left l.input) out (g.O.Sink.taken l.output) (world_of l.talk.desk) l.talk.line l.talk.total;
+      → Progress g.U.UidMaker.digest before (g.S.Source.left l.fn.input) out (g.O.Sink.taken l.fn.output) (state_of l.fn.talk.desk) l.fn.talk.line l.fn.talk.total
+      → Progress g.U.UidMaker.digest before (g.S.Source.left l.input) out (g.O.Sink.taken l.output) (state_of l.talk.desk) l.talk.line l.talk.total;
 }
 
 abbrev pub decreases-loop-status : goal.decreases-loop-status

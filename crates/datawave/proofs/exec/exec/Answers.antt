@@ -1,5 +1,5 @@
 use Rattle.datawave.proofs.Running.{ends_at_start, progress_start}
-use Rattle.dw_desk.specs.Desk.{world_of}
+use Rattle.dw_desk.specs.Desk.{state_of}
 use Rattle.datawave.proofs.exec.exec.Goals as goal
 
 pub returns-in_default-clause-runs : goal.returns-in_default-clause-runs
@@ -10,4 +10,4 @@ returns-clause-runs g c =
     let left = g.S.Source.left c.args.input.now in
     let out = g.O.Sink.taken c.args.output.now in
     c.exchange_all.ensures.runs left out
-    (progress_start g.U.UidMaker.digest left out (world_of c.new.result) c.new-2.result c.new.ensures c.new-2.ensures)
+    (progress_start g.U.UidMaker.digest left out (state_of c.new.result) c.new-2.result c.new.ensures c.new-2.ensures)

@@ -4,7 +4,7 @@ use Rattle.std.proofs.lemmas.Bool.{true≢false}
 use Rattle.std.proofs.lemmas.Str.{is_utf8-from_IsUtf8, IsUtf8-from_is_utf8}
 use Rattle.serde_json.specs.Data.{Data}
 use Rattle.serde_json.specs.Read.{read}
-use Rattle.dw_wire.specs.ReadLine.{guarded}
+use Rattle.dw_rows.specs.Values.{guarded}
 use Rattle.dw_wire.proofs.reading.parse.Goals as goal
 
 none_if : (b : Bool) (r : Option Data) → (b ≡ true → r ≡ None) → guarded b r ≡ None

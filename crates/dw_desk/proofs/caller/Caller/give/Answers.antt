@@ -6,5 +6,5 @@ pub returns-clause-given : goal.returns-clause-given
 returns-clause-given c = (
   λ e. absurd (omega (arith, e, c.if-self-ge-LAST_NUMBER.false)),
   refl,
-  account_is c.args.self.now.granted (c.args.self.now.given + 1) _ _ c.in_ok-insert.ensures.updates.0,
+  account_is (c.args.self.now.given + 1) _ _ c.in_ok-insert.ensures.updates.0,
 )

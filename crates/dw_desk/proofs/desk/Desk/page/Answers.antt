@@ -1,17 +1,17 @@
 use Rattle.std.proofs.Common.{ap, ◌∙◌, sym, subst, refl, inl, Option, Bool, List}
 use Rattle.dw_event.specs.declared.reports.Shown.{Shown}
 use Rattle.dw_wire.specs.declared.reply.Reply.TheVariants.{Paged}
-use Rattle.dw_desk.specs.declared.open_query.OpenQuery.{OpenQuery}
-use Rattle.dw_desk.specs.Answer.{answer_of}
+use Rattle.dw_eval.specs.declared.open_query.OpenQuery.{OpenQuery}
+use Rattle.dw_eval.specs.Answer.{answer_of}
 use Rattle.dw_event.specs.Pages.{page_items}
 use Rattle.dw_desk.specs.Step.{paged}
-use Rattle.dw_desk.specs.Desk.{world_of, is_owned, Meets}
+use Rattle.dw_desk.specs.Desk.{state_of, is_owned, Meets}
 use Rattle.dw_desk.proofs.desk.Desk.page.Goals as goal
 
 pub returns-in-Ok : goal.returns-in-Ok
-unfolding world_of
+unfolding state_of
 returns-in-Ok c =
-    let w = world_of c.args.self.now in
+    let w = state_of c.args.self.now in
     let q = c.in-Some.query.now in
     let P : Option OpenQuery → Type 0 = λ o. Meets (is_owned (paged w c.args.page o).reply) (paged w c.args.page o) w (Paged c.in-Ok.shown c.in-Ok.more) w in
     subst P (sym c.in-Some.ensures)

@@ -1,7 +1,0 @@
-use Rattle.std.proofs.Common.{◌≡◌, map}
-use Rattle.serde_json.specs.View.{members_view}
-use Rattle.dw_wire.specs.ReadLine.{has_only_names}
-use Rattle.dw_wire.proofs.reading.members.has_only_these.Given as goal
-
-abbrev pub invariant-loop-name : goal.invariant-loop-name
-invariant-loop-name l = has_only_names (map (λ n. n.now) l.names) (members_view l.members.entries) ≡ has_only_names (map (λ n. n.now) l.names) (members_view l.name-iterator)
