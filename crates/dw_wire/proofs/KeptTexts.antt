@@ -1,5 +1,5 @@
 -- The texts and numbers that reading gives keep their rules.
-use Rattle.std.proofs.Common.{◌≡◌, ℕ, suc, ◌+◌, ◌≤◌, true, false, not, ◌&&◌, nat_le, if◌then◌else◌, List, [], ◌∷◌, length, refl, arith, ap, sym, subst, length-append, ◌++◌, ◌∙◌, Option, Some, None, IfSome, Ok, is_some, option_and_then, option_map, codes}
+use Rattle.std.proofs.Common.{◌≡◌, ℕ, suc, ◌+◌, ◌≤◌, true, false, not, ◌&&◌, nat_le, if◌then◌else◌, List, [], ◌∷◌, length, refl, arith, ap, subst, ◌∙◌, Option, Some, None, IfSome, Ok, is_some, option_and_then, option_map, codes}
 use Rattle.std.specs.List.{list_all, list_any}
 use Rattle.std.specs.Ordering.{nat_cmp, is_le}
 use Rattle.std.specs.Cmp.Lexicographic.{slice_cmp}
@@ -16,7 +16,7 @@ use Rattle.dw_event.specs.declared.types.Types.TheVariants.{All, Only}
 use Rattle.dw_jexl.specs.declared.query.Query.{Query}
 use Rattle.dw_key.specs.TypeName.{is_type_name}
 use Rattle.dw_vis.specs.Names.{name_cmp, with_name, IsAscending}
-use Rattle.dw_wire.specs.ReadLine.{guarded, text_at, array_at, natural_at, number_at, is_caller, caller_of, field_at, type_names, only_of, types_of, days_of, days_at, size_of, is_auth, with_auths, items_count, auths_of, asked_of}
+use Rattle.dw_wire.specs.ReadLine.{text_at, array_at, natural_at, number_at, is_caller, caller_of, field_at, type_names, only_of, types_of, days_of, days_at, size_of, is_auth, with_auths, items_count, auths_of, asked_of}
 use Rattle.dw_wire.specs.WellFormed.{IsAuthSet, IsSpelt, are_days, are_types, is_counted_to}
 use Rattle.dw_wire.specs.QueryTexts.{query_of}
 use Rattle.dw_wire.proofs.QueryLaws.{queries_spelt}

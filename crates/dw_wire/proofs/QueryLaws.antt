@@ -13,7 +13,7 @@ use Rattle.dw_jexl.specs.Depth.{is_deep}
 use Rattle.dw_jexl.specs.Grammar.{leaves}
 use Rattle.dw_jexl.specs.Patterns.{are_right}
 use Rattle.dw_jexl.specs.Reading.{whole}
-use Rattle.dw_jexl.specs.Spelling.{IsSpeltBy, Spells, Breaks, Answers}
+use Rattle.dw_jexl.specs.Spelling.{IsSpeltBy, Breaks, Answers}
 use Rattle.dw_jexl.proofs.Verdict.{same_tokens, no_sentence, is_spelt, answers_only, answers_refuses}
 use Rattle.dw_wire.specs.QueryTexts.{tokens_of, limited, query_in, query_of, IsQueryOf, QueriesAreSpelt}
 use Rattle.dw_wire.proofs.Tokens.{tokens_read}

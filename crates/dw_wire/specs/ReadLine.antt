@@ -1,6 +1,6 @@
 -- What request a line is.
-use Rattle.std.specs.Prelude.{ℕ, ◌+◌, ◌-◌, ok_or, ◌^◌, ◌==◌, ◌&&◌, Bool, true, false, not, nat_le, List, [], ◌∷◌, ◌++◌, length, take, drop, Option, Some, None, Result, Ok, Err, option_map, option_and_then, is_some, codes, if◌then◌else◌}
-use Rattle.std.specs.List.{list_any, list_all, before_first}
+use Rattle.std.specs.Prelude.{ℕ, ◌+◌, ◌-◌, ok_or, ◌^◌, ◌&&◌, Bool, true, false, not, nat_le, List, [], ◌∷◌, length, Option, Some, None, Result, Ok, Err, option_map, option_and_then, is_some, codes, if◌then◌else◌}
+use Rattle.std.specs.List.{list_any, list_all}
 use Rattle.std.specs.Str.{is_utf8, bytes_eq, str_to_ascii_uppercase}
 use Rattle.serde_json.specs.Data.{Data, Items, no_items, item, Members, no_members, member}
 use Rattle.serde_json.specs.Read.{read}
