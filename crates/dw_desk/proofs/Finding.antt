@@ -1,5 +1,5 @@
 -- On whether a query finds an event.
-use Rattle.std.proofs.Common.{◌≡◌, ◌==◌, length, Bool, true, false, ◌&&◌, cond, List, [], ◌∷◌, Option, Some, None, refl, sym, ap, ◌∙◌}
+use Rattle.std.proofs.Common.{◌≡◌, ◌==◌, length, Bool, true, false, ◌&&◌, cond, List, [], ◌∷◌, Some, None, refl, sym, ap, ◌∙◌}
 use Rattle.std.specs.Prelude.{nat_le}
 use Rattle.dw_event.specs.Seen.{is_seen, shown_of}
 use Rattle.dw_event.specs.Take.{Event}
@@ -7,7 +7,6 @@ use Rattle.dw_event.specs.Wanted.{is_in_range, is_type_wanted}
 use Rattle.dw_event.specs.declared.reports.Shown.{Shown}
 use Rattle.dw_event.specs.declared.views.Pair.{Pair}
 use Rattle.dw_eval.specs.declared.open_query.OpenQuery.{OpenQuery}
-use Rattle.dw_eval.specs.Answer.{is_answer}
 use Rattle.dw_eval.specs.Sat.{sat}
 use Rattle.dw_eval.specs.Values.{normal_view}
 use Rattle.dw_desk.specs.Found.{is_found, found_in}

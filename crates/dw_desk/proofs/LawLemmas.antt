@@ -1,6 +1,5 @@
 -- On the law that steps keep events in order.
-use Rattle.std.proofs.Common.{◌≡◌, ◌≤◌, ◌+◌, ◌-◌, ◌*◌, ◌++◌, ◌∷◌, [], ℕ, zero, suc, Bool, true, false, cond, nat_lt, ◌&&◌, ◌||◌, ◌==◌, List, Option, Some, None, Result, Ok, Err, length, take, drop, refl, sym, ap, ◌∙◌, subst, arith, rules}
-use native.Mathlib.Nat.{suc-mul}
+use Rattle.std.proofs.Common.{◌≡◌, ◌+◌, ◌∷◌, [], ℕ, Bool, true, false, cond, nat_lt, ◌&&◌, ◌||◌, ◌==◌, List, Option, Some, None, Result, Ok, Err, refl, ap, ◌∙◌, rules}
 use Rattle.std.specs.List.{AllByRecursion}
 use Rattle.std.specs.List.Sorted.{IsStrictlySortedBy}
 use Rattle.std.specs.Cmp.{IsTotalOrder}
@@ -10,9 +9,6 @@ use Rattle.std.specs.declared.cmp.Ordering.TheVariants.{Less, Equal, Greater}
 use Rattle.std.specs.Ordering.{ordering_reverse, match_ordering}
 use Rattle.std.specs.Map.{keys_of}
 use Rattle.std.specs.BTreeMap.{insert_entry}
-use Rattle.std.proofs.lemmas.Bool.{ltb-false}
-use Rattle.std.proofs.lemmas.List.{take_all}
-use Rattle.std.proofs.Math.Seq.{take-add}
 use Rattle.dw_event.specs.Places.{place_cmp, place_of}
 use Rattle.dw_event.specs.Cells.{cells_eq}
 use Rattle.dw_dict.specs.Rules.{widens}
@@ -27,7 +23,6 @@ use Rattle.dw_event.specs.declared.records.Held.{Held}
 use Rattle.dw_eval.specs.declared.nquery.NQuery.{NQuery}
 use Rattle.dw_eval.specs.declared.open_query.OpenQuery.{OpenQuery}
 use Rattle.dw_eval.specs.Bound.{bound}
-use Rattle.dw_event.specs.declared.reports.Shown.{Shown}
 use Rattle.dw_wire.specs.declared.request.Request.TheVariants.{Define, Grant, Ingest, Create, Page, Close}
 use Rattle.dw_plan.specs.Anchored.{anchored}
 use Rattle.dw_desk.specs.Numbers.{last_number}

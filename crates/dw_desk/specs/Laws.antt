@@ -1,17 +1,15 @@
 -- Laws over the definitions: what holds of every state that requests leave, what becomes of an open query, the pages of
 -- a query together, and what the text of an answer says.
-use Rattle.std.specs.Prelude.{◌≡◌, ◌≢◌, ◌≤◌, ℕ, zero, suc, false, List, [], ◌++◌, Some, Ok, IfSome, All}
+use Rattle.std.specs.Prelude.{◌≡◌, ◌≢◌, ◌≤◌, ℕ, List, Some, Ok, IfSome, All}
 use Rattle.std.specs.List.Sorted.{IsStrictlySortedBy}
 use Rattle.std.specs.Map.{keys_of}
 use Rattle.dw_event.specs.Places.{place_cmp}
-use Rattle.dw_event.specs.declared.reports.Shown.{Shown}
 use Rattle.dw_wire.specs.declared.request.Request.TheVariants.{Page, Close}
 use Rattle.dw_wire.specs.declared.reply.Reply.TheVariants.{StoreFault, OutOfMemory}
 use Rattle.dw_wire.specs.ReplyText.{reply_text}
 use Rattle.dw_eval.specs.declared.open_query.OpenQuery.{OpenQuery}
 use Rattle.dw_desk.specs.State.{Account, State, start}
 use Rattle.dw_eval.specs.Answer.{answer_of}
-use Rattle.dw_event.specs.Pages.{page_items, has_more}
 use Rattle.dw_desk.specs.Step.{step}
 use Rattle.dw_desk.specs.Session.{Digest, Asked, Session}
 
