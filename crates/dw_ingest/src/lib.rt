@@ -9,3 +9,6 @@ mod tally;
 
 pub use dw_base::OutOfMemory;
 pub use ingesting::{IngestError, LAST_BATCH, ingest};
+
+#[cfg(test)]
+mod tests;

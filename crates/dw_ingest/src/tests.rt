@@ -1,0 +1,166 @@
+use crate::{IngestError, LAST_BATCH, ingest};
+use dw_base::Text;
+use dw_dict::{Dict, FieldRule};
+use dw_event::{BadReason, BadRecord, Cells, EventCell, MarkUid, Record, Report};
+use dw_key::DType;
+use dw_norm::Kind;
+use dw_outside::{Keeper, MemKeeper};
+use dw_vis::Vis;
+use std::alloc::Global;
+use std::test::Fail;
+
+/// A record of the type `lab` and the first day of 2024.
+fn lab_record(alloc: Global, fields: &[(&str, &str)]) -> Result<Record, Fail> {
+    let mut cells = Cells::new(alloc);
+    for (field, raw) in fields {
+        cells.put(EventCell {
+            field: Text::of(alloc, field)?,
+            raw: Text::of(alloc, raw)?,
+            vis: Vis::everyone(alloc),
+        })?;
+    }
+    Ok(Record {
+        dtype: DType::of(b"lab").ok_or("no type")?,
+        date: Text::of(alloc, "20240101")?,
+        cells,
+    })
+}
+
+/// A is indexed as it stands.
+fn dictionary(alloc: Global) -> Result<Dict, Fail> {
+    let mut dict = Dict::new(alloc);
+    let rule = FieldRule::of(Kind::Noop, true, false).ok_or("no rule")?;
+    dict.define("A", rule)?;
+    Ok(dict)
+}
+
+/// An ingest, or None of what is out of range.
+fn take(
+    alloc: Global,
+    keeper: &mut MemKeeper,
+    last: u64,
+    records: &[Result<Record, BadRecord>],
+) -> Result<Option<Result<Report, IngestError>>, Fail> {
+    let dict = dictionary(alloc)?;
+    if last > LAST_BATCH || records.len() > 1_000 {
+        return Ok(None);
+    }
+    Ok(Some(ingest(alloc, keeper, &MarkUid, &dict, last, records)))
+}
+
+/// What was new, repeated and bad, and the last number.
+fn counts(report: &Report) -> (u32, u32, usize, u64) {
+    (
+        report.new,
+        report.repeat,
+        report.bad.as_slice().len(),
+        report.last,
+    )
+}
+
+fn is_clash(report: &Report) -> bool {
+    match report.bad.as_slice() {
+        [bad] => bad.at == 1 && matches!(&bad.why, BadReason::Clash { .. }),
+        _ => false,
+    }
+}
+
+/// How many cells a table has, and the content of the first.
+fn first_of(alloc: Global, keeper: &mut MemKeeper, table: u8) -> Option<(usize, Vec<u8>)> {
+    if table > 3 {
+        return None;
+    }
+    let cells = keeper.scan(table, b"", b"", 0).ok()?;
+    let content = match cells.first() {
+        None => Vec::new(alloc),
+        Some(cell) => Vec::from_slice(alloc, cell.content.as_slice()).ok()?,
+    };
+    Some((cells.len(), content))
+}
+
+/// So many events whose field A is `x`, from the number on.
+fn same_values(
+    alloc: Global,
+    from: u32,
+    count: u32,
+) -> Result<Vec<Result<Record, BadRecord>>, Fail> {
+    let mut records = Vec::new(alloc);
+    for k in 0..count {
+        let id = format!(in alloc; "0-{}", from.saturating_add(k))?;
+        records.push(Ok(lab_record(alloc, &[("A", "x"), ("ID", id.as_str())])?))?;
+    }
+    Ok(records)
+}
+
+#[test]
+fn records_are_new_repeats_or_clashes(rt: HostRuntime) -> Result<(), Fail> {
+    let alloc = rt.alloc();
+    let mut keeper = MemKeeper::without_reads(alloc);
+    let mut records = Vec::new(alloc);
+    for fields in [
+        [("A", "x"), ("ID", "0-1")],
+        [("A", "y"), ("ID", "0-1")],
+        [("A", "x"), ("ID", "0-1")],
+    ] {
+        records.push(Ok(lab_record(alloc, &fields)?))?;
+    }
+    for (last, wanted) in [(0, (1, 1, 1, 1)), (1, (0, 2, 1, 1))] {
+        let report = take(alloc, &mut keeper, last, records.as_slice())?.ok_or("range")??;
+        assert_eq!(rt; counts(&report), wanted);
+        assert!(rt; is_clash(&report));
+    }
+    Ok(())
+}
+
+#[test]
+fn a_list_keeps_50_uids_and_then_their_number(rt: HostRuntime) -> Result<(), Fail> {
+    let alloc = rt.alloc();
+    let mut keeper = MemKeeper::without_reads(alloc);
+    let fifty = same_values(alloc, 1, 50)?;
+    let report = take(alloc, &mut keeper, 0, fifty.as_slice())?.ok_or("range")??;
+    assert_eq!(rt; counts(&report), (50, 0, 0, 1));
+    let (cells, content) = first_of(alloc, &mut keeper, 1).ok_or("a scan")?;
+    assert_eq!(rt;
+        (cells, content.len(), content.first().copied()),
+        (1, 1_603, Some(2))
+    );
+    let more = same_values(alloc, 51, 1)?;
+    let report = take(alloc, &mut keeper, 1, more.as_slice())?.ok_or("range")??;
+    assert_eq!(rt; counts(&report), (1, 0, 0, 2));
+    let (_, content) = first_of(alloc, &mut keeper, 1).ok_or("a scan")?;
+    assert_eq!(rt;
+        content.as_slice(),
+        b"\x02\x01\x00\x00\x00\x00\x00\x00\x00\x33".as_slice()
+    );
+    let spent = same_values(alloc, 52, 1)?;
+    assert!(rt;
+        matches!(
+            take(alloc, &mut keeper, LAST_BATCH, spent.as_slice())?,
+            Some(Err(IngestError::Spent))
+        )
+    );
+    let again = take(alloc, &mut keeper, LAST_BATCH, more.as_slice())?.ok_or("range")??;
+    assert_eq!(rt; counts(&again), (0, 1, 0, LAST_BATCH));
+    Ok(())
+}
+
+#[test]
+fn a_failed_call_leaves_no_cell(rt: HostRuntime) -> Result<(), Fail> {
+    let alloc = rt.alloc();
+    let records = same_values(alloc, 1, 3)?;
+    let mut failed = 0;
+    for call in 1..20u64 {
+        let mut keeper = MemKeeper::new(alloc, vec![in alloc; call]?);
+        let result = take(alloc, &mut keeper, 0, records.as_slice())?.ok_or("range")?;
+        if result.is_ok() {
+            continue;
+        }
+        failed += 1u64;
+        for table in 0..4u8 {
+            let (cells, _) = first_of(alloc, &mut keeper, table).ok_or("a scan")?;
+            assert_eq!(rt; cells, 0);
+        }
+    }
+    assert_eq!(rt; failed, 5);
+    Ok(())
+}
