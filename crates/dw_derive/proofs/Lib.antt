@@ -14,3 +14,4 @@ pub mod Stepping
 pub mod Decoding
 pub mod Reading
 pub mod WholeDocuments
+pub mod WholeWorlds

@@ -106,7 +106,7 @@ words_lack : (bs : List ℕ) → list_all is_word_byte bs ≡ true → lacks_zer
 words_lack [] h = refl
 words_lack (b ∷ bs) h = ap (λ x. x && lacks_zero bs) (word_is_not_zero b (left (is_word_byte b) (list_all is_word_byte bs) h)) ∙ words_lack bs (right (is_word_byte b) (list_all is_word_byte bs) h)
 
-field_is_plain : (field : List ℕ) → is_folded_name field ≡ true → IsPlainText field
+pub field_is_plain : (field : List ℕ) → is_folded_name field ≡ true → IsPlainText field
 field_is_plain field h =
     let words : list_all is_word_byte field ≡ true =
     right (nat_le 1 (length field) && nat_le (length field) MAX_NAME && not (begins_with_digit field)) (list_all is_word_byte field) (left (is_field_name field) (not (list_any is_ascii_lowercase field)) h) in

@@ -11,3 +11,4 @@ pub mod Lawful
 pub mod Laws
 pub mod Decoded
 pub mod Documents
+pub mod EventsRead

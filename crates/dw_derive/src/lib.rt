@@ -25,7 +25,7 @@ pub use readers::{
     EventFields, GlobalFields, IndexFields, event_fields, global_fields, index_fields,
 };
 pub use table_laws::{
-    cells_are_given, codes_are_read, documents_are_read, events_are_steps, numbers_are_cells,
-    tables_of_one_more,
+    cells_are_given, codes_are_read, documents_are_read, events_are_read, events_are_steps,
+    numbers_are_cells, tables_of_one_more, tables_tell_events,
 };
 pub use uid_list::{Form, UidList, Uids};

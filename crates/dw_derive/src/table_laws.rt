@@ -2,6 +2,7 @@
 
 ghost use Rattle.dw_derive.specs.Decoded.{CodesAreRead};
 ghost use Rattle.dw_derive.specs.Documents.{DocumentsAreRead};
+ghost use Rattle.dw_derive.specs.EventsRead.{EventsAreRead, TablesTellEvents};
 ghost use Rattle.dw_derive.specs.Laws.{TablesOfOneMore, EventsAreSteps, NumbersAreCells, CellsAreGiven};
 
 use dw_key::codes_tell_keys;
@@ -38,4 +39,14 @@ pub fn codes_are_read()
 /// The cells of an event are read from the tables.
 pub fn documents_are_read()
     ensures { DocumentsAreRead }
+{}
+
+/// The events of a world are read from the keys of its tables.
+pub fn events_are_read()
+    ensures { EventsAreRead }
+{}
+
+/// Worlds with equal tables have equal events.
+pub fn tables_tell_events()
+    ensures { TablesTellEvents }
 {}
