@@ -68,7 +68,7 @@ all_grow digest number t (rec ∷ recs) =
 none_counted : (last : ℕ) (t : Taken) → t.new ≡ 0 → last_after last t ≡ last
 none_counted last t h = ap (λ n. cond (nat_lt 0 n) (last + 1) last) h
 
-some_counted : (last : ℕ) (t : Taken) → t.new ≢ 0 → last_after last t ≡ last + 1
+pub some_counted : (last : ℕ) (t : Taken) → t.new ≢ 0 → last_after last t ≡ last + 1
 some_counted last t h = ap (λ b. cond b (last + 1) last) (positive t.new h)
   where
     positive : (n : ℕ) → n ≢ 0 → nat_lt 0 n ≡ true

@@ -4,3 +4,4 @@ pub mod EntryTables
 pub mod Items
 pub mod Steps
 pub mod Ending
+pub mod Keeping
