@@ -1,4 +1,5 @@
 pub mod Ascending
+pub mod Callers
 pub mod Days
 pub mod FieldNames
 pub mod Numerals

@@ -1,6 +1,7 @@
 ghost use Rattle.std.specs.Prelude.{◌≡◌};
-ghost use Rattle.std.specs.List.{list_all};
-ghost use Rattle.dw_base.specs.FieldNames.{is_word_byte as is_word, begins_with_digit as has_digit_first, is_field_name as names_field};
+ghost use Rattle.std.specs.List.{list_all, list_any};
+ghost use Rattle.std.specs.Char.{is_ascii_lowercase};
+ghost use Rattle.dw_base.specs.FieldNames.{is_word_byte as is_word, begins_with_digit as has_digit_first, is_field_name as names_field, is_folded_name as names_folded};
 
 use crate::limits::MAX_NAME;
 
@@ -35,4 +36,17 @@ pub fn is_field_name(text: &str) -> bool
         && bytes.len() <= MAX_NAME
         && !begins_with_digit(bytes)
         && are_word_bytes(bytes)
+}
+
+fn has_lower_case(bytes: &[u8]) -> bool
+    ensures { result ≡ list_any is_ascii_lowercase bytes.now }
+{
+    bytes.iter().any(|byte| byte.is_ascii_lowercase())
+}
+
+/// Whether a text is the name of a field as it is kept, with its letters in upper case.
+pub fn is_folded_name(text: &str) -> bool
+    ensures { result ≡ names_folded text.now }
+{
+    is_field_name(text) && !has_lower_case(text.as_bytes())
 }

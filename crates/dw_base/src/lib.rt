@@ -2,6 +2,7 @@
 #![tactic(auto)]
 
 mod bytes;
+mod callers;
 mod exact;
 mod field_names;
 mod limits;
@@ -12,9 +13,12 @@ mod text;
 mod twin;
 
 pub use bytes::Bytes;
+pub use callers::{is_auth, is_caller};
 pub use exact::{Exact, Named};
-pub use field_names::is_field_name;
-pub use limits::{MAX_CANONICAL, MAX_CELLS, MAX_NAME, MAX_VALUE, MAX_VISIBILITY};
+pub use field_names::{is_field_name, is_folded_name};
+pub use limits::{
+    MAX_CALLER, MAX_CANONICAL, MAX_CELLS, MAX_NAME, MAX_NAMES, MAX_VALUE, MAX_VISIBILITY,
+};
 pub use listed::Listed;
 pub use numerals::read_numeral;
 pub use sorted::Sorted;

@@ -7,6 +7,9 @@ pub mod Spellings
 pub mod ReaderLemmas
 pub mod Rereading
 pub mod MetaLemmas
+pub mod MetaSpellings
+pub mod MetaTableLemmas
+pub mod IndexLemmas
 pub mod Orders
 pub mod Shards
 pub mod Growing

@@ -1,14 +1,13 @@
 -- On the cells of one event that are read from the tables.
-use Rattle.std.proofs.Common.{◌≡◌, ◌↔◌, ◌<◌, ◌≤◌, ◌^◌, ◌||◌, ◌&&◌, ◌==◌, ◌++◌, ℕ, zero, suc, Bool, true, false, not, nat_eq, nat_le, cond, List, [], ◌∷◌, map, length, refl, sym, ap, subst, ◌∙◌, append_assoc, arith}
-use Rattle.std.specs.Prelude.{Option, Some, None, filter_map}
+use Rattle.std.proofs.Common.{◌≡◌, ◌<◌, ◌^◌, ◌||◌, ◌&&◌, ◌==◌, ◌++◌, ℕ, zero, suc, Bool, true, false, not, nat_eq, nat_le, cond, List, [], ◌∷◌, map, length, refl, sym, ap, subst, ◌∙◌, append_assoc, arith}
+use Rattle.std.specs.Prelude.{Option, Some, None}
 use Rattle.std.specs.Option.{option_map_or, option_and_then}
-use Rattle.std.specs.List.{list_any, list_all, starts_with, flat_map, filter, AllByRecursion}
+use Rattle.std.specs.List.{list_any, list_all, starts_with, AllByRecursion}
 use Rattle.std.specs.List.Sorted.{IsStrictlySortedBy}
 use Rattle.std.specs.Map.{lookup, keys_of}
 use Rattle.std.specs.BTreeMap.{is_at}
-use Rattle.std.specs.Cmp.{IsTotalOrder, both_ways}
-use Rattle.std.specs.Ordering.{eq_by_cmp, is_eq, ordering_reverse}
-use Rattle.std.specs.FinMap.{keys, entries, IsAntisymmetric}
+use Rattle.std.specs.Cmp.{both_ways}
+use Rattle.std.specs.Ordering.{is_eq}
 use Rattle.std.specs.declared.cmp.Ordering.{Ordering}
 use Rattle.std.specs.declared.cmp.Ordering.TheVariants.{Less, Equal, Greater}
 use Rattle.std.proofs.lemmas.Cmp.{tied_itself}
@@ -17,12 +16,11 @@ use Rattle.std.proofs.lemmas.Map.Keys.{sorted_head, sorted_tail}
 use Rattle.std.proofs.lemmas.Map.Lookups.{CmpEqualImpliesEq, exact_bytes, exact_pairs}
 use Rattle.std.proofs.lemmas.List.Folds.{list_any-append}
 use Rattle.std.proofs.lemmas.Str.{IsUtf8-from_ascii, is_utf8-from_IsUtf8}
-use Rattle.std.specs.Str.{is_utf8, IsAscii}
-use Rattle.std.specs.Prelude.{slice_index, IsTrue}
+use Rattle.std.specs.Str.{is_utf8}
+use Rattle.std.specs.Prelude.{slice_index}
 use Rattle.std.specs.Ordering.{nat_cmp}
 use Rattle.std.specs.Cmp.Lexicographic.{slice_cmp}
 use Rattle.std.specs.Char.{is_ascii_lowercase}
-use Rattle.dw_base.specs.Ascending.{set_of}
 use Rattle.dw_base.specs.FieldNames.{is_word_byte, begins_with_digit, is_field_name, is_folded_name}
 use Rattle.dw_base.specs.declared.limits.TheConstants.{MAX_NAME}
 use Rattle.dw_key.specs.declared.key.Key.{Key}
@@ -34,38 +32,29 @@ use Rattle.dw_key.proofs.DocKeyLaws.{doc_keys_exact}
 use Rattle.dw_key.proofs.Prefixes.{no_part_behind}
 use Rattle.dw_vis.specs.Test.{is_vis}
 use Rattle.dw_norm.specs.Normal.{norm}
-use Rattle.dw_norm.specs.Reversal.{rev}
 use Rattle.dw_dict.specs.declared.rule.FieldRule.{FieldRule}
 use Rattle.dw_dict.specs.Dictionary.{Dictionary, rule_of}
 use Rattle.dw_event.specs.declared.cells.EventCell.{EventCell}
 use Rattle.dw_event.specs.declared.records.Place.{Place}
 use Rattle.dw_event.specs.declared.records.Held.{Held}
-use Rattle.dw_event.specs.Cells.{cell_cmp, exact_cells}
 use Rattle.dw_event.specs.Names.{lacks_zero, is_raw_value, is_visibility}
 use Rattle.dw_event.specs.Places.{place_cmp}
 use Rattle.dw_event.specs.Records.{is_cell}
-use Rattle.dw_event.specs.Take.{Event, held_at}
+use Rattle.dw_event.specs.Take.{Event}
 use Rattle.dw_outside.specs.declared.slot.Slot.{Slot}
-use Rattle.dw_outside.specs.Tables.{Tables, is_in_span, span_of}
+use Rattle.dw_outside.specs.Tables.{is_in_span}
 use Rattle.dw_outside.proofs.CellMaps.{tied}
 use Rattle.dw_outside.proofs.Spanning.{prefix_span}
-use Rattle.dw_derive.specs.declared.event_cells.Entry.{Entry}
-use Rattle.dw_derive.specs.UidLists.{IsUid}
-use Rattle.dw_derive.specs.Entries.{zero_joined, doc_text, field_index, event_key, field_key, global_key, forward_entries, backward_entries, index_entries, cell_entries, entries_of, slot_of, slots_of}
-use Rattle.dw_derive.specs.Readers.{EventReading, doc_from, event_reading}
+use Rattle.dw_derive.specs.Entries.{doc_text, field_index, event_key, field_key, forward_entries, backward_entries, index_entries, cell_entries, entries_of, slot_of, slots_of}
+use Rattle.dw_derive.specs.Readers.{doc_from}
 use Rattle.dw_derive.specs.ReaderLaws.{IsDocKey, IsPlainText, EventKeysAreRead}
-use Rattle.dw_derive.specs.Decoded.{key_from}
-use Rattle.dw_derive.specs.Documents.{document_front, document_start, document_end, seen_by, cell_of_key, cell_from, cells_from, document_of, DocumentsAreRead}
-use Rattle.dw_derive.specs.World.{World}
-use Rattle.dw_derive.specs.Tables.{tables}
-use Rattle.dw_derive.specs.Lawful.{record_of, IsEvent, HasEvents}
-use Rattle.dw_derive.proofs.Lists.{any_mapped, any_flat, any_alike}
-use Rattle.dw_derive.proofs.Sets.{any_filtered, any_filter_map, any_set, set_ascends, same_sorted}
+use Rattle.dw_derive.specs.Documents.{document_front, document_start, document_end, seen_by, cell_of_key, cell_from}
+use Rattle.dw_derive.specs.Lawful.{record_of, IsEvent}
+use Rattle.dw_derive.proofs.Lists.{any_mapped, any_flat}
 use Rattle.dw_derive.proofs.Given.{split}
 use Rattle.dw_derive.proofs.Shards.{left, right, KeepsRules, rules_of}
 use Rattle.dw_derive.proofs.Orders.{places_total}
 use Rattle.dw_derive.proofs.Decoding.{key_of_code}
-use Rattle.dw_derive.proofs.Stepping.{any_cell}
 
 -- ---- beginnings
 

@@ -1,13 +1,12 @@
 -- On the names of shards, which hold no byte 0.
-use Rattle.std.proofs.Common.{◌≡◌, ◌<◌, ◌≤◌, ◌^◌, ◌&&◌, ◌==◌, ℕ, zero, suc, Bool, true, false, not, List, [], ◌∷◌, ◌++◌, take, length, nat_le, refl, sym, ap, ◌∙◌, arith, decimal}
-use Rattle.std.specs.Prelude.{IsTrue}
+use Rattle.std.proofs.Common.{◌≡◌, ◌<◌, ◌&&◌, ◌==◌, ℕ, zero, suc, Bool, true, false, not, List, [], ◌∷◌, ◌++◌, take, length, nat_le, refl, ap, ◌∙◌, arith, decimal}
 use Rattle.std.specs.List.{list_all}
 use Rattle.std.specs.Char.{is_ascii_digit}
 use Rattle.std.specs.Str.Parse.{AllDigits}
 use Rattle.std.proofs.lemmas.Bool.Decides.{nat_tests}
 use Rattle.std.proofs.lemmas.Fmt.{decimal_is_IsNumeral}
 use Rattle.dw_key.specs.TypeName.{is_type_name}
-use Rattle.dw_base.specs.Days.{names_day, is_day}
+use Rattle.dw_base.specs.Days.{names_day}
 use Rattle.dw_base.specs.declared.limits.TheConstants.{MAX_CELLS, MAX_CANONICAL}
 use Rattle.dw_event.specs.declared.records.Record.{Record}
 use Rattle.dw_event.specs.Names.{lacks_zero}

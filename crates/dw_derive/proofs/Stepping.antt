@@ -1,6 +1,6 @@
 -- On the puts of an event, the cell of the last number, and the cells that stand in the tables.
-use Rattle.std.proofs.Common.{◌≡◌, ◌≢◌, ◌==◌, ◌||◌, ◌&&◌, ◌++◌, ℕ, Bool, true, false, cond, List, [], ◌∷◌, map, ap, refl, sym, ◌∙◌, arith}
-use Rattle.std.specs.Prelude.{Option, Some, None}
+use Rattle.std.proofs.Common.{◌≡◌, ◌≢◌, ◌==◌, ◌||◌, ◌++◌, ℕ, Bool, true, false, cond, List, [], ◌∷◌, map, ap, refl, sym, ◌∙◌, arith}
+use Rattle.std.specs.Prelude.{Option, Some}
 use Rattle.std.specs.Option.{is_some}
 use Rattle.std.specs.List.{list_any, flat_map, AllByRecursion}
 use Rattle.std.specs.Map.{keys_of}
@@ -10,7 +10,7 @@ use Rattle.std.specs.FinMap.{find, get, insert, get-insert, get-from_entries, sa
 use Rattle.std.specs.FinMap as finmap
 use Rattle.std.specs.declared.cmp.Ordering.{Ordering}
 use Rattle.std.specs.Cmp.{nat_cmp_total}
-use Rattle.std.proofs.lemmas.Cmp.{on_total, then_total, tied_itself}
+use Rattle.std.proofs.lemmas.Cmp.{on_total, then_total}
 use Rattle.std.proofs.lemmas.Bool.Decides.{nat_tests}
 use Rattle.std.proofs.lemmas.List.Folds.{list_any-append}
 use Rattle.dw_key.specs.KeyLaws.{CodesTellKeys}
@@ -21,12 +21,10 @@ use Rattle.dw_event.specs.Take.{Event}
 use Rattle.dw_outside.specs.declared.slot.Slot.{Slot}
 use Rattle.dw_outside.specs.Tables.{Tables, slot_cmp, is_slot, applied}
 use Rattle.dw_outside.proofs.CellMaps.{exact_slots, slots_total, same_slot}
-use Rattle.dw_derive.specs.declared.event_cells.Entry.{Entry}
 use Rattle.dw_derive.specs.Entries.{entries_of, entry_cmp, exact_entries, slot_of, slots_of}
 use Rattle.dw_derive.specs.Meta.{put_at, commit_slot, commit_bytes}
 use Rattle.dw_derive.specs.World.{World}
-use Rattle.dw_derive.specs.Tables.{gives, uid_of, content, event_cells, form_at, commit_cells, field_cell, grant_cell, meta_cells, tables}
-use Rattle.dw_derive.specs.Lawful.{IsEvent, HasEvents, IsFree, with_event}
+use Rattle.dw_derive.specs.Tables.{gives, uid_of, event_cells, form_at, field_cell, grant_cell, meta_cells, tables}
 use Rattle.dw_derive.specs.Laws.{grown, put_of, stepped, EventsAreSteps, with_last, NumbersAreCells, CellsAreGiven}
 use Rattle.dw_derive.proofs.Lists.{any_mapped, any_flat}
 use Rattle.dw_derive.proofs.Maps.{any_same}
@@ -72,7 +70,7 @@ set_stepped dict e m = same_map slots_total exact_slots _ _ (λ q.
 
 -- ---- the cell of the last number
 
-none_given : (w : World) (s : Slot) → s.table ≡ 3 → (es : List Event) → list_any (gives (slots_of w.dict) s) es ≡ false
+pub none_given : (w : World) (s : Slot) → s.table ≡ 3 → (es : List Event) → list_any (gives (slots_of w.dict) s) es ≡ false
 none_given w s t [] = refl
 none_given w s t (e ∷ es) = at (gives (slots_of w.dict) s e) refl (none_given w s t es)
   where

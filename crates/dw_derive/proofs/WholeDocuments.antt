@@ -1,6 +1,6 @@
 -- On the cells of one event that are read from the tables, as a whole.
-use Rattle.std.proofs.Common.{◌≡◌, ◌||◌, ◌&&◌, ◌==◌, Bool, true, false, cond, List, [], ◌∷◌, map, refl, sym, ap, ◌∙◌}
-use Rattle.std.specs.Prelude.{Some, None, filter_map, ℕ}
+use Rattle.std.proofs.Common.{◌≡◌, ◌&&◌, ◌==◌, Bool, true, false, cond, List, [], ◌∷◌, map, refl, sym, ap, ◌∙◌}
+use Rattle.std.specs.Prelude.{Some, filter_map, ℕ}
 use Rattle.std.specs.Option.{option_map_or}
 use Rattle.std.specs.List.{list_any, filter, AllByRecursion}
 use Rattle.std.specs.List.Sorted.{IsStrictlySortedBy}
@@ -11,22 +11,19 @@ use Rattle.std.specs.Cmp.Lexicographic.{nat_list_cmp_total}
 use Rattle.std.specs.Ordering.{eq_by_cmp, is_eq}
 use Rattle.std.specs.FinMap.{keys, entries}
 use Rattle.std.proofs.lemmas.Cmp.{on_total, then_total}
-use Rattle.std.proofs.lemmas.Bool.Decides.{nat_tests}
 use Rattle.dw_base.proofs.Search.{ascending_none}
 use Rattle.dw_event.specs.declared.cells.EventCell.{EventCell}
 use Rattle.dw_event.specs.declared.records.Place.{Place}
 use Rattle.dw_event.specs.declared.records.Held.{Held}
 use Rattle.dw_event.specs.Cells.{cell_cmp, exact_cells}
 use Rattle.dw_event.specs.Places.{place_cmp}
-use Rattle.dw_event.specs.Take.{Event, held_at}
+use Rattle.dw_event.specs.Take.{Event}
 use Rattle.dw_outside.specs.declared.slot.Slot.{Slot}
 use Rattle.dw_outside.specs.Tables.{Tables, is_in_span, span_of}
-use Rattle.dw_derive.specs.Entries.{slots_of}
-use Rattle.dw_derive.specs.Documents.{document_start, document_end, cell_from, cells_from, document_of, DocumentsAreRead}
+use Rattle.dw_derive.specs.Documents.{document_start, document_end, cell_from, document_of, DocumentsAreRead}
 use Rattle.dw_derive.specs.ReaderLaws.{IsDocKey}
-use Rattle.dw_derive.specs.World.{World}
 use Rattle.dw_derive.specs.Tables.{tables}
-use Rattle.dw_derive.specs.Lawful.{IsEvent, HasEvents}
+use Rattle.dw_derive.specs.Lawful.{IsEvent}
 use Rattle.dw_derive.proofs.Lists.{any_mapped, any_alike}
 use Rattle.dw_derive.proofs.Sets.{any_filtered, any_filter_map, any_set, set_ascends, same_sorted}
 use Rattle.dw_derive.proofs.Stepping.{any_cell}

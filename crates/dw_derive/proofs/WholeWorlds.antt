@@ -1,5 +1,5 @@
 -- On the events that the tables of a world stand for.
-use Rattle.std.proofs.Common.{◌≡◌, ◌||◌, ◌&&◌, ◌==◌, ◌^◌, ◌<◌, ◌++◌, ℕ, zero, suc, Bool, true, false, not, nat_le, cond, List, [], ◌∷◌, map, length, refl, sym, ap, ◌∙◌, arith}
+use Rattle.std.proofs.Common.{◌≡◌, ◌||◌, ◌&&◌, ◌==◌, ◌++◌, ℕ, Bool, true, false, not, nat_le, cond, List, [], ◌∷◌, map, length, refl, sym, ap, ◌∙◌, arith}
 use Rattle.std.specs.Prelude.{Option, Some, None, filter_map}
 use Rattle.std.specs.Option.{option_map, option_and_then, option_map_or}
 use Rattle.std.specs.List.{filter, list_any, list_all, AllByRecursion}
@@ -17,29 +17,23 @@ use Rattle.std.proofs.lemmas.Map.Keys.{sorted_head, sorted_tail}
 use Rattle.std.specs.Str.{is_utf8}
 use Rattle.dw_base.specs.Ascending.{set_of}
 use Rattle.dw_base.specs.FieldNames.{is_folded_name}
-use Rattle.dw_key.specs.declared.key.Key.{Key}
-use Rattle.dw_key.specs.KeyCode.{code}
 use Rattle.dw_vis.specs.Test.{is_vis}
 use Rattle.dw_norm.specs.Normal.{norm}
 use Rattle.dw_dict.specs.declared.rule.FieldRule.{FieldRule}
 use Rattle.dw_dict.specs.Dictionary.{Dictionary, rule_of}
 use Rattle.dw_event.specs.declared.cells.EventCell.{EventCell}
-use Rattle.dw_event.specs.declared.records.Place.{Place}
 use Rattle.dw_event.specs.Cells.{cell_cmp, exact_cells}
 use Rattle.dw_event.specs.Names.{lacks_zero, is_raw_value, is_visibility}
 use Rattle.dw_event.specs.Places.{place_cmp}
 use Rattle.dw_event.specs.Records.{is_cell}
 use Rattle.dw_event.specs.Take.{Event}
 use Rattle.dw_outside.specs.declared.slot.Slot.{Slot}
-use Rattle.dw_derive.specs.declared.event_cells.Entry.{Entry}
-use Rattle.dw_derive.specs.Entries.{event_key, field_key, global_key, forward_entries, backward_entries, index_entries, cell_entries, entries_of, slot_of, slots_of}
+use Rattle.dw_derive.specs.Entries.{event_key, field_key, forward_entries, backward_entries, index_entries, cell_entries, entries_of, slot_of, slots_of}
 use Rattle.dw_derive.specs.Decoded.{key_from}
-use Rattle.dw_derive.specs.Documents.{seen_by}
 use Rattle.dw_derive.specs.EventsRead.{CellReading, with_cell_of, key_says, slot_says, is_of, first_batch, event_at, events_of, events_in, EventsAreRead, TablesTellEvents}
 use Rattle.dw_derive.specs.ReaderLaws.{IsDocKey, IsPlainText}
-use Rattle.dw_derive.specs.World.{World}
 use Rattle.dw_derive.specs.Tables.{tables}
-use Rattle.dw_derive.specs.Lawful.{record_of, IsEvent, HasEvents}
+use Rattle.dw_derive.specs.Lawful.{record_of, IsEvent}
 use Rattle.dw_derive.proofs.Lists.{any_mapped, any_flat, any_alike}
 use Rattle.dw_derive.proofs.Sets.{any_filtered, any_filter_map, any_set, set_ascends, same_sorted}
 use Rattle.dw_derive.proofs.Shards.{left, right, KeepsRules, rules_of}

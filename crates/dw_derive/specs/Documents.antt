@@ -1,6 +1,6 @@
 -- The cells of one event, read from the table of cells.
-use Rattle.std.specs.Prelude.{◌≡◌, ℕ, ◌==◌, ◌&&◌, Bool, true, false, List, [], ◌∷◌, ◌++◌, map as list_map, filter_map, Option, Some, None, if◌then◌else◌}
-use Rattle.std.specs.Option.{option_map, option_and_then, option_map_or}
+use Rattle.std.specs.Prelude.{◌≡◌, ℕ, true, List, [], ◌∷◌, ◌++◌, map as list_map, filter_map, Option, Some, None, if◌then◌else◌}
+use Rattle.std.specs.Option.{option_and_then, option_map_or}
 use Rattle.dw_base.specs.Ascending.{set_of}
 use Rattle.dw_key.specs.declared.key.Key.{Key}
 use Rattle.dw_key.specs.KeyCode.{escaped, part_code}
@@ -8,7 +8,6 @@ use Rattle.dw_key.specs.TypeName.{is_type_name}
 use Rattle.dw_vis.specs.Test.{is_vis}
 use Rattle.dw_event.specs.declared.cells.EventCell.{EventCell}
 use Rattle.dw_event.specs.declared.records.Place.{Place}
-use Rattle.dw_event.specs.declared.records.Held.{Held}
 use Rattle.dw_event.specs.Cells.{cell_cmp}
 use Rattle.dw_event.specs.Take.{held_at}
 use Rattle.dw_outside.specs.Tables.{Tables, span_of}

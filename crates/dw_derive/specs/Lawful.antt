@@ -1,16 +1,20 @@
 -- What a world keeps.
-use Rattle.std.specs.Prelude.{◌≡◌, ◌≢◌, ◌↔◌, ℕ, ◌+◌, ◌-◌, ◌<◌, ◌≤◌, ◌^◌, true, List, [], ◌∷◌, ◌++◌, take, decimal, None}
+use Rattle.std.specs.Prelude.{◌≡◌, ◌↔◌, ℕ, ◌-◌, ◌<◌, ◌≤◌, ◌^◌, true, List, [], ◌∷◌, ◌++◌, take, decimal, None, IsTrue}
 use Rattle.std.specs.List.{AllByRecursion, list_any}
 use Rattle.std.specs.List.Sorted.{IsStrictlySortedBy}
 use Rattle.std.specs.Map.{keys_of}
 use Rattle.std.specs.BTreeMap.{insert_entry}
+use Rattle.std.specs.FinMap as map
 use Rattle.std.specs.FinSet as set
+use Rattle.dw_base.specs.Callers.{is_caller}
+use Rattle.dw_base.specs.FieldNames.{is_folded_name}
 use Rattle.dw_event.specs.declared.records.Record.{Record}
 use Rattle.dw_event.specs.Places.{place_cmp}
 use Rattle.dw_event.specs.Records.{IsWellFormed}
 use Rattle.dw_event.specs.Take.{Event, held_at}
 use Rattle.dw_outside.specs.declared.slot.Slot.{Slot}
 use Rattle.dw_derive.specs.UidLists.{IsUid}
+use Rattle.dw_derive.specs.MetaReaders.{AreGranted}
 use Rattle.dw_derive.specs.Entries.{slots_of}
 use Rattle.dw_derive.specs.World.{World}
 use Rattle.dw_derive.specs.Tables.{gives}
@@ -39,9 +43,16 @@ pub record HasEvents (w : World) : Type 0 where
   pub lawful : AllByRecursion IsEvent w.events
   pub old : (s : Slot) → set.contains w.old s ≡ true → list_any (gives (slots_of w.dict) s) w.events ≡ true
 
--- and no batch is later than the last one, which is 0 exactly where there is no event
+-- what may be granted: names that keep their limits, to a caller whose name does
+pub record IsGrant (g : List ℕ × List (List ℕ)) : Type 0 where
+  pub caller : IsTrue (is_caller g.0)
+  pub names : AreGranted g.1
+
+-- and no batch is later than the last one, which is 0 exactly where there is no event; fields and grants keep their limits
 pub record IsWorld (w : World) : Type 0 where
   pub events : HasEvents w
+  pub fields : AllByRecursion (λ f. IsTrue (is_folded_name f.0)) (map.entries w.dict)
+  pub grants : AllByRecursion IsGrant (map.entries w.grants)
   pub batches : AllByRecursion (λ e. e.1.batch ≤ w.last) w.events
   pub none : (w.last ≡ 0) ↔ (w.events ≡ [])
   pub most : w.last ≤ 2 ^ 63 - 1

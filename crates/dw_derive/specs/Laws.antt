@@ -8,9 +8,9 @@ use Rattle.dw_outside.specs.declared.cell.Put.{Put}
 use Rattle.dw_outside.specs.Tables.{Tables, applied}
 use Rattle.dw_dict.specs.Dictionary.{Dictionary}
 use Rattle.dw_derive.specs.declared.uid_list.Form.{Form}
-use Rattle.dw_derive.specs.declared.uid_list.Form.TheVariants.{One, Two}
+use Rattle.dw_derive.specs.declared.uid_list.Form.TheVariants.{Two}
 use Rattle.dw_derive.specs.declared.uid_list.UidList.{UidList}
-use Rattle.dw_derive.specs.declared.uid_list.UidList.TheVariants.{Kept, Counted}
+use Rattle.dw_derive.specs.declared.uid_list.UidList.TheVariants.{Kept}
 use Rattle.dw_derive.specs.declared.list_bytes.BadList.{BadList}
 use Rattle.dw_derive.specs.UidLists.{added, list_bytes, list_read}
 use Rattle.dw_derive.specs.Entries.{slots_of}

@@ -12,3 +12,5 @@ pub mod Laws
 pub mod Decoded
 pub mod Documents
 pub mod EventsRead
+pub mod MetaTables
+pub mod Indexing

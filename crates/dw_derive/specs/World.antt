@@ -1,5 +1,5 @@
 -- What tables say, apart from any bytes.
-use Rattle.std.specs.Prelude.{◌≡◌, ℕ, ◌+◌, ◌<◌, ◌≤◌, ◌^◌, ◌==◌, ◌&&◌, nat_le, Bool, true, List, [], length, take, drop, Option, Some, None}
+use Rattle.std.specs.Prelude.{ℕ, List, []}
 use Rattle.std.specs.Ordering.{nat_cmp}
 use Rattle.std.specs.Cmp.Lexicographic.{slice_cmp}
 use Rattle.std.specs.FinMap as map

@@ -6,6 +6,7 @@ mod documents;
 mod event_cells;
 mod list_bytes;
 mod meta;
+mod meta_laws;
 mod meta_readers;
 mod reader_laws;
 mod readers;
@@ -17,7 +18,12 @@ pub use dw_base::OutOfMemory;
 pub use event_cells::{Entry, doc_text, entries};
 pub use list_bytes::{BadList, decode_list, encode_list, lists_have_one_spelling};
 pub use meta::{commit_cell, field_cell, grant_cell};
-pub use meta_readers::commit_number;
+pub use meta_laws::{
+    added_are_new, grants_are_cells, grants_have_one_spelling, grants_keep_worlds,
+    indexes_are_added, meta_is_read, numbers_have_one_spelling, rules_are_cells,
+    rules_have_one_spelling, rules_keep_worlds,
+};
+pub use meta_readers::{commit_number, field_rule, grant_names};
 pub use reader_laws::{
     event_keys_are_read, field_keys_are_read, global_keys_are_read, rows_never_meet,
 };

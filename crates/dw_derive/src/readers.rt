@@ -105,7 +105,7 @@ fn zero_at(bytes: &[u8]) -> Option<usize>
 
 /// The bytes as a text, where they are UTF-8.
 #[tactic(auto, using(crate::proofs::ReaderLemmas::a_text, crate::proofs::ReaderLemmas::no_text))]
-fn text(bytes: &[u8]) -> Option<&str>
+pub fn text(bytes: &[u8]) -> Option<&str>
     ensures { MatchOption result (is_utf8 bytes.now ≡ false) (λ t. (is_utf8 bytes.now ≡ true) × (t.now ≡ bytes.now)) }
 {
     match str::from_utf8(bytes) {

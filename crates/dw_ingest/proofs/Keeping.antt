@@ -90,6 +90,8 @@ some_kept digest w records t p going is some room =
     let keeps : Keeps (w.last + 1) tk = all_keep digest (w.last + 1) (none_taken w.events) records (record { batches = up_to_next w.last w.events is.batches; some = λ n. absurd (n refl) }) in
     record {
       events = record { ascend = going.events.ascend; lawful = going.events.lawful; old = going.events.old };
+      fields = is.fields;
+      grants = is.grants;
       batches = subst (λ n. AreUpTo n tk.events) (sym last) keeps.batches;
       none = (λ z. absurd (let a = last in omega (arith, a, z)), λ z. absurd (keeps.some fresh z));
       most = (let a = last in let b = is.most in omega (arith, a, b, room));

@@ -1,5 +1,6 @@
 use crate::{IngestError, LAST_BATCH, ingest};
 use dw_base::Text;
+use dw_derive::key_of;
 use dw_dict::{Dict, FieldRule};
 use dw_event::{BadReason, BadRecord, Cells, EventCell, MarkUid, Record, Report};
 use dw_key::DType;
@@ -174,5 +175,35 @@ fn a_failed_call_leaves_no_cell(rt: HostRuntime) -> Result<(), Fail> {
             assert_eq!(rt; cells, 0);
         }
     }
+    Ok(())
+}
+
+/// The stamps of the cells of table 0, in the order of their keys.
+fn stamps_of(alloc: Global, keeper: &mut MemKeeper) -> Result<Vec<u64>, Fail> {
+    let cells = keeper.scan(0, b"", b"", 0)?;
+    let mut stamps = Vec::new(alloc);
+    for cell in cells.as_slice() {
+        let key = key_of(alloc, cell.key.as_slice())?.ok_or("no key")?;
+        stamps.push(key.stamp)?;
+    }
+    Ok(stamps)
+}
+
+#[test]
+fn cells_have_the_number_of_their_batch(rt: HostRuntime) -> Result<(), Fail> {
+    let alloc = rt.alloc();
+    let mut keeper = MemKeeper::without_reads(alloc);
+    let mut first = Vec::new(alloc);
+    for id in ["0-2", "0-4"] {
+        first.push(Ok(lab_record(alloc, &[("A", "x"), ("ID", id)])?))?;
+    }
+    let report = taken(alloc, &mut keeper, 0, first.as_slice())?;
+    assert_eq!(rt; report, (2, 0, 0, 1));
+    let second = same_values(alloc, 1, 1)?;
+    let report = taken(alloc, &mut keeper, 1, second.as_slice())?;
+    assert_eq!(rt; report, (1, 0, 0, 2));
+    // The field index of 0-1, 0-2 and 0-4, and then the two cells of each.
+    let stamps = stamps_of(alloc, &mut keeper)?;
+    assert_eq!(rt; stamps.as_slice(), [2, 1, 1, 2, 2, 1, 1, 1, 1].as_slice());
     Ok(())
 }

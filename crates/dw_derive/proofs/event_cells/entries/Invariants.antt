@@ -1,6 +1,6 @@
 use Rattle.std.proofs.Common.{◌≡◌, ◌++◌, drop}
 use Rattle.std.specs.List.{flat_map}
-use Rattle.dw_derive.specs.Entries.{event_of, doc_text, cell_entries, entries_of}
+use Rattle.dw_derive.specs.Entries.{event_of, cell_entries, entries_of}
 use Rattle.dw_derive.proofs.event_cells.entries.Given as goal
 
 abbrev pub invariant-loop-cell : goal.invariant-loop-cell
