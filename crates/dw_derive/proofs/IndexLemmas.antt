@@ -1,5 +1,5 @@
 -- On what a field's new rule adds to the tables.
-use Rattle.std.proofs.Common.{◌≡◌, ◌≢◌, ◌⊎◌, inl, inr, ◌<◌, ◌≤◌, ◌||◌, ◌&&◌, ◌==◌, ◌++◌, ℕ, Bool, true, false, not, cond, List, [], ◌∷◌, map, length, T, refl, sym, ap, subst, ◌∙◌, arith}
+use Rattle.std.proofs.Common.{◌≡◌, ◌≢◌, ◌⊎◌, inl, inr, ◌<◌, ◌≤◌, ◌||◌, ◌&&◌, ◌==◌, ◌++◌, ℕ, Bool, true, false, not, cond, List, [], ◌∷◌, map, length, T, refl, sym, ap, subst, ◌∙◌, append_assoc, arith}
 use Rattle.std.specs.Prelude.{Option, Some, None, IsTrue, filter, is_none, unwrap_or}
 use Rattle.std.specs.Option.{is_some, option_or}
 use Rattle.std.specs.List.{list_any, flat_map, AllByRecursion}
@@ -8,12 +8,12 @@ use Rattle.std.specs.Str.{bytes_eq}
 use Rattle.std.specs.Map.{keys_of}
 use Rattle.std.specs.BTreeMap.{is_at, insert_entry}
 use Rattle.std.specs.Cmp.Lexicographic.{slice_cmp, nat_list_cmp_total}
-use Rattle.std.specs.Ordering.{nat_cmp, is_lt}
-use Rattle.std.specs.FinMap.{find, is_sorted, get, insert, entries, keys, len, get-insert, contains_key-keys, len-entries, entries_sorted, same_map}
+use Rattle.std.specs.Ordering.{match_ordering, ordering_reverse, nat_cmp, is_eq, is_lt}
+use Rattle.std.specs.FinMap.{empty, find, is_sorted, get, insert, entries, keys, len, get-insert, contains_key-keys, len-entries, entries_sorted, same_map}
 use Rattle.std.specs.FinMap.Entries.{below_all}
 use Rattle.std.specs.declared.cmp.Ordering.{Ordering}
 use Rattle.std.specs.declared.cmp.Ordering.TheVariants.{Less, Equal, Greater}
-use Rattle.std.proofs.lemmas.List.{length-map}
+use Rattle.std.proofs.lemmas.List.{append-nil, length-map}
 use Rattle.std.specs.FinSet as set
 use Rattle.std.proofs.lemmas.Bool.Decides.{nat_tests}
 use Rattle.std.proofs.lemmas.List.Folds.{list_any-append}
@@ -25,12 +25,14 @@ use Rattle.dw_key.specs.KeyCode.{code}
 use Rattle.dw_key.specs.KeyLaws.{CodesTellKeys}
 use Rattle.dw_key.specs.TypeName.{is_type_name}
 use Rattle.dw_norm.specs.declared.kind.Kind.{Kind}
+use Rattle.dw_base.specs.FieldNames.{is_folded_name}
 use Rattle.dw_norm.specs.Normal.{norm}
 use Rattle.dw_norm.specs.Reversal.{rev}
 use Rattle.dw_dict.specs.declared.rule.FieldRule.{FieldRule}
 use Rattle.dw_dict.specs.Rules.{Widens}
 use Rattle.dw_dict.specs.Dictionary.{Dictionary, rule_of, undefined}
 use Rattle.dw_event.specs.declared.cells.EventCell.{EventCell}
+use Rattle.dw_event.specs.declared.records.Place.{Place}
 use Rattle.dw_event.specs.Places.{place_cmp}
 use Rattle.dw_event.specs.Take.{Event}
 use Rattle.dw_outside.specs.declared.slot.Slot.{Slot}
@@ -47,16 +49,17 @@ use Rattle.dw_derive.specs.Tables.{gives, uid_of, givers, content, form_at, meta
 use Rattle.dw_derive.specs.Lawful.{record_of, IsEvent, HasEvents}
 use Rattle.dw_derive.specs.Laws.{grown, list_with}
 use Rattle.dw_derive.specs.MetaTables.{with_rule}
-use Rattle.dw_derive.specs.Indexing.{entries_beside, cell_adds, entries_added, slots_added, index_tables, added_tables, IndexesAreAdded, new_cells, AddedAreNew}
+use Rattle.dw_derive.specs.Indexing.{WiderRulesKeepWorlds, index_stepped, all_stepped, IndexesAreSteps, entries_beside, cell_adds, entries_added, slots_added, index_tables, added_tables, IndexesAreAdded, new_cells, AddedAreNew}
 use Rattle.dw_derive.proofs.Lists.{any_flat, any_mapped, any_or, any_alike, all_filtered, filter_alike, filter_first, filter_second, any_inserted}
 use Rattle.dw_derive.proofs.Sets.{any_filtered, same_sorted}
 use Rattle.dw_derive.proofs.Maps.{get_of}
 use Rattle.dw_derive.proofs.Given.{all_append, all_flat, found_all, meta_cells_are_meta, not_meta, not_zero, split}
+use Rattle.dw_derive.proofs.Orders.{places_total}
 use Rattle.dw_derive.proofs.Shards.{rules_of, shard_lacks}
 use Rattle.dw_derive.proofs.Growing.{OneShard, content_at, get_tables, givers_more, list_grows}
 use Rattle.dw_derive.proofs.Stepping.{get_applied}
 use Rattle.dw_derive.proofs.Rereading.{never_meet}
-use Rattle.dw_derive.proofs.MetaTableLemmas.{meta_has, find_rule, rule_apart, itself_there}
+use Rattle.dw_derive.proofs.MetaTableLemmas.{all_inserted, meta_has, find_rule, rule_apart, itself_there}
 
 -- ---- the slots of the new rule are those of the old one and those that are added
 
@@ -569,3 +572,75 @@ indexes_added tell w field rule has wide = index_added tell w field rule has wid
 
 pub added_are_new : CodesTellKeys → AddedAreNew
 added_are_new tell w field rule has wide = added_new tell w field rule has wide
+
+-- ---- event by event
+
+module _ (e : Event) where
+  -- what stands before an event, and that it is below it
+  all_before : (P : Place → Type 0) (done rest : List Event) → AllByRecursion P (keys_of (done ++ e ∷ rest)) → AllByRecursion P (keys_of done) × P e.0
+  all_before P [] rest h = (tt, h.0)
+  all_before P (d ∷ done) rest h = let r = all_before P done rest h.1 in ((h.0, r.0), r.1)
+
+  before : (done rest : List Event) → IsStrictlySortedBy place_cmp (keys_of (done ++ e ∷ rest)) → IsStrictlySortedBy place_cmp (keys_of done) × AllByRecursion (λ (d : Event). place_cmp d.0 e.0 ≡ Less) done
+  unfolding IsStrictlySortedBy
+  before [] rest h = (tt, tt)
+  before (d ∷ done) rest h =
+      let first = all_before (λ y. place_cmp d.0 y ≡ Less) done rest h.0 in
+      let more = before done rest h.1 in
+      ((first.0, more.0), (first.1, more.1))
+
+  above : (d : Event) → place_cmp d.0 e.0 ≡ Less → place_cmp e.0 d.0 ≡ Greater
+  above d h = places_total.antisymm e.0 d.0 ∙ ap ordering_reverse h
+
+  none_at : (done : List Event) → AllByRecursion (λ (d : Event). place_cmp d.0 e.0 ≡ Less) done → NonePasses (is_at (place_cmp e.0)) done
+  none_at [] h = tt
+  none_at (d ∷ done) h = (ap is_eq (above d h.0), none_at done h.1)
+
+  insert_last : (done : List Event) → AllByRecursion (λ (d : Event). place_cmp d.0 e.0 ≡ Less) done → insert_entry place_cmp done e.0 e.1 ≡ done ++ e ∷ []
+  insert_last [] h = refl
+  insert_last (d ∷ done) h =
+      ap (λ o. match_ordering o ((e.0, e.1) ∷ d ∷ done) ((d.0, e.1) ∷ done) (d ∷ insert_entry place_cmp done e.0 e.1)) (above d h.0)
+      ∙ ap (λ (es : List Event). d ∷ es) (insert_last done h.1)
+
+  lawful_parts : (done rest : List Event) → AllByRecursion IsEvent (done ++ e ∷ rest) → AllByRecursion IsEvent done × IsEvent e
+  lawful_parts [] rest h = (tt, h.0)
+  lawful_parts (d ∷ done) rest h = let r = lawful_parts done rest h.1 in ((h.0, r.0), r.1)
+
+steps_from : (slots : Event → List Slot) → ((s : Slot) → (s.table == 0) ≡ false → OneShard slots s) → (rest done : List Event) → IsStrictlySortedBy place_cmp (keys_of (done ++ rest)) → AllByRecursion IsEvent (done ++ rest)
+    → all_stepped slots rest (index_tables slots done) ≡ index_tables slots (done ++ rest)
+steps_from slots one [] done up lawful = ap (index_tables slots) (sym (append-nil done))
+steps_from slots one (e ∷ rest) done up lawful =
+    let ready : IsStrictlySortedBy place_cmp (keys_of done) × AllByRecursion (λ (d : Event). place_cmp d.0 e.0 ≡ Less) done = before e done rest up in
+    let parts : AllByRecursion IsEvent done × IsEvent e = lawful_parts e done rest lawful in
+    let same : (done ++ e ∷ []) ++ rest ≡ done ++ e ∷ rest = append_assoc done (e ∷ []) rest in
+    let now : index_stepped slots e (index_tables slots done) ≡ index_tables slots (done ++ e ∷ []) =
+    index_step slots one done ready.0 parts.0 e (none_at e done ready.1) parts.1 ∙ ap (index_tables slots) (insert_last e done ready.1) in
+    ap (all_stepped slots rest) now
+    ∙ steps_from slots one rest (done ++ e ∷ []) (subst (λ (es : List Event). IsStrictlySortedBy place_cmp (keys_of es)) (sym same) up) (subst (AllByRecursion IsEvent) (sym same) lawful)
+    ∙ ap (index_tables slots) same
+
+no_events : (slots : Event → List Slot) → index_tables slots [] ≡ empty
+unfolding index_tables
+no_events slots = refl
+
+pub index_steps : CodesTellKeys → IndexesAreSteps
+index_steps tell w field rule has wide =
+    ap (all_stepped (slots_added field (rule_of w.dict field) rule) w.events) (sym (no_events (slots_added field (rule_of w.dict field) rule)))
+    ∙ steps_from (slots_added field (rule_of w.dict field) rule) (added_shard tell w.dict field rule wide) w.events [] has.ascend has.lawful
+
+pub wider_keeps : WiderRulesKeepWorlds
+wider_keeps w field rule wide is folded = record {
+  events = record {
+    ascend = is.events.ascend;
+    lawful = is.events.lawful;
+    old = λ s h.
+        any_alike _ _ (gives_joined w.dict field rule wide s) w.events
+        ∙ any_or (gives (slots_of w.dict) s) (gives (slots_added field (rule_of w.dict field) rule) s) w.events
+        ∙ ap (λ b. b || list_any (gives (slots_added field (rule_of w.dict field) rule) s) w.events) (is.events.old s h);
+  };
+  fields = all_inserted (λ f. IsTrue (is_folded_name f.0)) field rule w.dict folded is.fields;
+  grants = is.grants;
+  batches = is.batches;
+  none = is.none;
+  most = is.most;
+}

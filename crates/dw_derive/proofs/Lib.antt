@@ -18,3 +18,4 @@ pub mod Decoding
 pub mod Reading
 pub mod WholeDocuments
 pub mod WholeWorlds
+pub mod GatherLemmas

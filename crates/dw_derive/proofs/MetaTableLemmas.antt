@@ -541,7 +541,7 @@ module _ {Y : Type 0} (P : List ℕ × Y → Type 0) (k : List ℕ) (y : Y) wher
       at Equal t r = (let key = exact_bytes k e.0 t in subst P (λ i. (key i, y)) h, all.1)
       at Greater t r = (all.0, r)
 
-  all_inserted : (d : FinMap (slice_cmp nat_cmp) Y) → P (k, y) → AllByRecursion P (entries d) → AllByRecursion P (entries (insert d k y))
+  pub all_inserted : (d : FinMap (slice_cmp nat_cmp) Y) → P (k, y) → AllByRecursion P (entries d) → AllByRecursion P (entries (insert d k y))
   all_inserted d h all = subst (AllByRecursion P) (sym (entries-insert nat_list_cmp_total d k y)) (all_put h (entries d) all)
 
 pub rule_keeps : RulesKeepWorlds

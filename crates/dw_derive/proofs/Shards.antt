@@ -1,6 +1,10 @@
 -- On the names of shards, which hold no byte 0.
-use Rattle.std.proofs.Common.{◌≡◌, ◌<◌, ◌&&◌, ◌==◌, ℕ, zero, suc, Bool, true, false, not, List, [], ◌∷◌, ◌++◌, take, length, nat_le, refl, ap, ◌∙◌, arith, decimal}
-use Rattle.std.specs.List.{list_all}
+use Rattle.std.proofs.Common.{◌≡◌, ◌<◌, ◌&&◌, ◌==◌, ℕ, zero, suc, Bool, true, false, not, List, [], ◌∷◌, ◌++◌, take, length, nat_le, refl, sym, ap, subst, ◌∙◌, arith, decimal}
+use Rattle.std.specs.Prelude.{slice_index}
+use Rattle.std.specs.List.{list_all, AllByRecursion}
+use Rattle.std.specs.Str.{is_utf8}
+use Rattle.std.proofs.lemmas.Str.{IsUtf8-from_ascii, is_utf8-from_IsUtf8}
+use Rattle.std.proofs.lemmas.Str.Parse.{digit_from_value}
 use Rattle.std.specs.Char.{is_ascii_digit}
 use Rattle.std.specs.Str.Parse.{AllDigits}
 use Rattle.std.proofs.lemmas.Bool.Decides.{nat_tests}
@@ -82,3 +86,36 @@ pub shard_lacks : (e : Event) → IsEvent e → lacks_zero e.0.shard ≡ true
 shard_lacks e h =
     let rules : KeepsRules (record_of e) = rules_of (record_of e) h.rules.rules in
     ap lacks_zero h.shard.spelled ∙ lacks-append (take 8 e.0.shard) (95 ∷ decimal h.number) (day_lacks (take 8 e.0.shard) rules.date) (number_lacks h.number h.shard.below)
+
+-- ---- they are texts
+
+abbrev AreSmall : List ℕ → Type 0
+AreSmall bs = AllByRecursion (λ b. b < 128) bs
+
+small_at : (bs : List ℕ) → AreSmall bs → (i : ℕ) → slice_index bs i < 128
+small_at [] h i = omega arith
+small_at (b ∷ bs) h zero = h.0
+small_at (b ∷ bs) h (suc i) = small_at bs h.1 i
+
+digit_small : (b : ℕ) → is_ascii_digit b ≡ true → b < 128
+digit_small b h = grind (arith, nat_tests)
+
+digits_small : (ds : List ℕ) → list_all is_ascii_digit ds ≡ true → AreSmall ds
+digits_small [] h = tt
+digits_small (d ∷ ds) h = (digit_small d (left (is_ascii_digit d) (list_all is_ascii_digit ds) h), digits_small ds (right (is_ascii_digit d) (list_all is_ascii_digit ds) h))
+
+numeral_small : (ds : List ℕ) → AllDigits 10 ds → AreSmall ds
+numeral_small [] h = tt
+numeral_small (d ∷ ds) h = (let r = digit_from_value d h.0 in omega (arith, r), numeral_small ds h.1)
+
+small-append : (a b : List ℕ) → AreSmall a → AreSmall b → AreSmall (a ++ b)
+small-append [] b h k = k
+small-append (x ∷ a) b h k = (h.0, small-append a b h.1 k)
+
+pub shard_is_text : (e : Event) → IsEvent e → is_utf8 e.0.shard ≡ true
+shard_is_text e h =
+    let rules : KeepsRules (record_of e) = rules_of (record_of e) h.rules.rules in
+    let day : AreSmall (take 8 e.0.shard) = digits_small (take 8 e.0.shard) (right (length (take 8 e.0.shard) == 8) (list_all is_ascii_digit (take 8 e.0.shard)) (left ((length (take 8 e.0.shard) == 8) && list_all is_ascii_digit (take 8 e.0.shard)) _ rules.date)) in
+    let number : AreSmall (95 ∷ decimal h.number) = (omega arith, numeral_small (decimal h.number) (decimal_is_IsNumeral h.number (let b = h.shard.below in omega (arith, b))).0.1) in
+    let all : AreSmall e.0.shard = subst AreSmall (sym h.shard.spelled) (small-append (take 8 e.0.shard) (95 ∷ decimal h.number) day number) in
+    is_utf8-from_IsUtf8 e.0.shard (IsUtf8-from_ascii e.0.shard (small_at e.0.shard all))

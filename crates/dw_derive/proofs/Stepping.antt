@@ -1,6 +1,7 @@
 -- On the puts of an event, the cell of the last number, and the cells that stand in the tables.
 use Rattle.std.proofs.Common.{◌≡◌, ◌≢◌, ◌==◌, ◌||◌, ◌++◌, ℕ, Bool, true, false, cond, List, [], ◌∷◌, map, ap, refl, sym, ◌∙◌, arith}
 use Rattle.std.specs.Prelude.{Option, Some}
+use Rattle.dw_derive.specs.declared.event_cells.Entry.{Entry}
 use Rattle.std.specs.Option.{is_some}
 use Rattle.std.specs.List.{list_any, flat_map, AllByRecursion}
 use Rattle.std.specs.Map.{keys_of}
@@ -56,17 +57,20 @@ entries_total : IsTotalOrder entry_cmp
 entries_total = then_total (on_total (λ n. n.table) nat_cmp_total) (on_total (λ n. n.key) keys_total)
 
 -- each entry once or twice, the tables are the same
-pub set_stepped : (dict : Dictionary) (e : Event) (m : Tables) → applied (map (put_of m (uid_of e)) (map slot_of (set_of entry_cmp (entries_of dict e)))) m ≡ stepped dict e m
-set_stepped dict e m = same_map slots_total exact_slots _ _ (λ q.
-    get_applied f (map slot_of (set_of entry_cmp (entries_of dict e))) m q
+pub set_applied : (ns : List Entry) (uid : List ℕ) (m : Tables) → applied (map (put_of m uid) (map slot_of (set_of entry_cmp ns))) m ≡ applied (map (put_of m uid) (map slot_of ns)) m
+set_applied ns uid m = same_map slots_total exact_slots _ _ (λ q.
+    get_applied f (map slot_of (set_of entry_cmp ns)) m q
     ∙ ap (λ b. cond b (Some (f q)) (get m q))
-    (any_mapped (is_slot q) slot_of (set_of entry_cmp (entries_of dict e))
-    ∙ any_set entry_cmp exact_entries entries_total (λ n. is_slot q (slot_of n)) (entries_of dict e)
-    ∙ sym (any_mapped (is_slot q) slot_of (entries_of dict e)))
-    ∙ sym (get_applied f (slots_of dict e) m q))
+    (any_mapped (is_slot q) slot_of (set_of entry_cmp ns)
+    ∙ any_set entry_cmp exact_entries entries_total (λ n. is_slot q (slot_of n)) ns
+    ∙ sym (any_mapped (is_slot q) slot_of ns))
+    ∙ sym (get_applied f (map slot_of ns) m q))
   where
     f : Slot → List ℕ
-    f s = grown s (get m s) (uid_of e)
+    f s = grown s (get m s) uid
+
+pub set_stepped : (dict : Dictionary) (e : Event) (m : Tables) → applied (map (put_of m (uid_of e)) (map slot_of (set_of entry_cmp (entries_of dict e)))) m ≡ stepped dict e m
+set_stepped dict e m = set_applied (entries_of dict e) (uid_of e) m
 
 -- ---- the cell of the last number
 

@@ -36,7 +36,7 @@ use Rattle.dw_derive.specs.Tables.{tables}
 use Rattle.dw_derive.specs.Lawful.{record_of, IsEvent}
 use Rattle.dw_derive.proofs.Lists.{any_mapped, any_flat, any_alike}
 use Rattle.dw_derive.proofs.Sets.{any_filtered, any_filter_map, any_set, set_ascends, same_sorted}
-use Rattle.dw_derive.proofs.Shards.{left, right, KeepsRules, rules_of}
+use Rattle.dw_derive.proofs.Shards.{left, right, KeepsRules, rules_of, shard_is_text}
 use Rattle.dw_derive.proofs.Orders.{places_total}
 use Rattle.dw_derive.proofs.Decoding.{key_of_code}
 use Rattle.dw_derive.proofs.Stepping.{any_cell}
@@ -140,6 +140,7 @@ event_says e c i h =
     let doc : IsDocKey e.0.key = record { dtype = (rules e i).dtype; uid = i.uid } in
     ap (option_and_then key_says) (key_of_code (event_key e c) i.most)
     ∙ ap (option_and_then (with_cell_of (event_key e c))) (event_keys e c doc field raw).0
+    ∙ ap (λ t. cond t (option_map (λ x. record { place = e.0; cell = x; batch = e.1.batch }) (cond (is_vis c.vis) (Some c) None)) None) (shard_is_text e i)
     ∙ ap (λ t. option_map (λ x. record { place = e.0; cell = x; batch = e.1.batch }) (cond t (Some c) None)) vis
 
 field_says : (e : Event) (c : EventCell) (v : List ℕ) → IsEvent e → slot_says (slot_of (record { table = 0; key = field_key e c v })) ≡ None

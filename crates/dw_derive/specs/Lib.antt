@@ -12,5 +12,6 @@ pub mod Laws
 pub mod Decoded
 pub mod Documents
 pub mod EventsRead
+pub mod Said
 pub mod MetaTables
 pub mod Indexing

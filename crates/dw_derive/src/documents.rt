@@ -31,7 +31,7 @@ pub fn key_of(alloc: Global, bytes: &[u8]) -> Result<Option<Key>, OutOfMemory>
 }
 
 /// The visibility of a text, or None where it breaks a rule.
-fn vis_of(alloc: Global, text: &[u8]) -> Result<Option<Vis>, OutOfMemory>
+pub fn vis_of(alloc: Global, text: &[u8]) -> Result<Option<Vis>, OutOfMemory>
     ensures { IfOk result (λ o. o ≡ only_if (is_vis text.now) text.now) }
 {
     match Vis::parse(alloc, text) {

@@ -3,6 +3,7 @@ ghost use Rattle.dw_base.specs.Ascending.{set_of};
 ghost use Rattle.dw_key.specs.KeyCode.{code};
 ghost use Rattle.dw_norm.specs.Reversal.{rev};
 ghost use Rattle.dw_derive.specs.Entries.{event_of, zero_joined as joined, doc_text as text_of_doc, field_index, event_key, field_key, global_key, forward_entries, backward_entries, index_entries, cell_entries, entries_of, entry_cmp, slot_of};
+ghost use Rattle.dw_derive.specs.Indexing.{entries_beside, cell_adds, entries_added as added_by_rule};
 
 use crate::OutOfMemory;
 use dw_base::{Bytes, Exact, Sorted};
@@ -209,6 +210,80 @@ pub fn entries(alloc: Global, event: &Event, dict: &Dict) -> Result<Vec<Entry>, 
     let mut all = Vec::new(alloc);
     for cell in event.cells.as_slice() {
         put_cell(alloc, dict, event, doc.as_slice(), cell, &mut all)?;
+    }
+    Ok(Sorted::from_vec(all).into_vec())
+}
+
+/// Adds the cells of the indexes that a new rule gives for a normal form, and the old one does not.
+fn put_beside(
+    alloc: Global,
+    old: FieldRule,
+    rule: FieldRule,
+    event: &Event,
+    doc: &[u8],
+    cell: &EventCell,
+    value: &str,
+    all: &mut Vec<Entry>,
+) -> Result<(), OutOfMemory>
+    requires { doc.now ≡ text_of_doc event.now.key }
+    ensures { OnOk result (all.new.items ≡ all.old.items ++ entries_beside old rule (event_of event.now) cell.now (Some value.now)) }
+{
+    if rule.indexed && !old.indexed {
+        put_forward(alloc, event, doc, cell, value, all)?;
+    }
+    if rule.reversed && !old.reversed {
+        put_backward(alloc, event, cell, value, all)?;
+    }
+    Ok(())
+}
+
+/// Adds those that the new rule of a field adds for one cell of an event.
+fn put_added(
+    alloc: Global,
+    field: &str,
+    old: FieldRule,
+    rule: FieldRule,
+    event: &Event,
+    doc: &[u8],
+    cell: &EventCell,
+    all: &mut Vec<Entry>,
+) -> Result<(), OutOfMemory>
+    requires { doc.now ≡ text_of_doc event.now.key }
+    ensures { OnOk result (all.new.items ≡ all.old.items ++ cell_adds field.now old rule (event_of event.now) cell.now) }
+{
+    if cell.field.as_str() != field {
+        return Ok(());
+    }
+    match normal(alloc, rule.kind, cell.raw.as_str())? {
+        None => Ok(()),
+        Some(value) => put_beside(alloc, old, rule, event, doc, cell, value.as_str(), all),
+    }
+}
+
+/// The cells of the indexes that the new rule of a field adds for an event, each once, by table and then by
+/// key.
+pub fn entries_added(
+    alloc: Global,
+    event: &Event,
+    field: &str,
+    old: FieldRule,
+    rule: FieldRule,
+) -> Result<Vec<Entry>, OutOfMemory>
+    ensures { IfOk result (λ v. v.items ≡ set_of entry_cmp (added_by_rule field.now old rule (event_of event.now))) }
+{
+    let doc = doc_text(alloc, &event.key)?;
+    let mut all = Vec::new(alloc);
+    for cell in event.cells.as_slice() {
+        put_added(
+            alloc,
+            field,
+            old,
+            rule,
+            event,
+            doc.as_slice(),
+            cell,
+            &mut all,
+        )?;
     }
     Ok(Sorted::from_vec(all).into_vec())
 }

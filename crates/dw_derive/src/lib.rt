@@ -4,6 +4,7 @@
 
 mod documents;
 mod event_cells;
+mod gathering;
 mod list_bytes;
 mod meta;
 mod meta_laws;
@@ -15,13 +16,14 @@ mod uid_list;
 
 pub use documents::{cell_of, cells_of, document, document_span, key_of};
 pub use dw_base::OutOfMemory;
-pub use event_cells::{Entry, doc_text, entries};
+pub use event_cells::{Entry, doc_text, entries, entries_added};
+pub use gathering::events_of;
 pub use list_bytes::{BadList, decode_list, encode_list, lists_have_one_spelling};
 pub use meta::{commit_cell, field_cell, grant_cell};
 pub use meta_laws::{
     added_are_new, grants_are_cells, grants_have_one_spelling, grants_keep_worlds,
-    indexes_are_added, meta_is_read, numbers_have_one_spelling, rules_are_cells,
-    rules_have_one_spelling, rules_keep_worlds,
+    indexes_are_added, indexes_are_steps, meta_is_read, numbers_have_one_spelling, rules_are_cells,
+    rules_have_one_spelling, rules_keep_worlds, wider_rules_keep_worlds,
 };
 pub use meta_readers::{commit_number, field_rule, grant_names};
 pub use reader_laws::{
@@ -31,7 +33,7 @@ pub use readers::{
     EventFields, GlobalFields, IndexFields, event_fields, global_fields, index_fields,
 };
 pub use table_laws::{
-    cells_are_given, codes_are_read, documents_are_read, events_are_read, events_are_steps,
-    numbers_are_cells, tables_of_one_more, tables_tell_events,
+    cells_are_given, codes_are_read, documents_are_read, events_are_gathered, events_are_read,
+    events_are_steps, numbers_are_cells, tables_of_one_more, tables_tell_events,
 };
 pub use uid_list::{Form, UidList, Uids};

@@ -1,7 +1,7 @@
 //! What holds of the cells of table 3. The functions do nothing: their contracts are laws.
 
 ghost use Rattle.dw_derive.specs.MetaReaders.{RulesHaveOneSpelling, GrantsHaveOneSpelling, NumbersHaveOneSpelling};
-ghost use Rattle.dw_derive.specs.Indexing.{IndexesAreAdded, AddedAreNew};
+ghost use Rattle.dw_derive.specs.Indexing.{IndexesAreAdded, AddedAreNew, IndexesAreSteps, WiderRulesKeepWorlds};
 ghost use Rattle.dw_derive.specs.MetaTables.{MetaIsRead, RulesAreCells, GrantsAreCells, RulesKeepWorlds, GrantsKeepWorlds};
 
 use dw_key::codes_tell_keys;
@@ -60,3 +60,15 @@ pub fn added_are_new()
 {
     codes_tell_keys();
 }
+
+/// Event by event the same cells are made.
+pub fn indexes_are_steps()
+    ensures { IndexesAreSteps }
+{
+    codes_tell_keys();
+}
+
+/// A world keeps the rules of a world when a field gets a wider rule.
+pub fn wider_rules_keep_worlds()
+    ensures { WiderRulesKeepWorlds }
+{}

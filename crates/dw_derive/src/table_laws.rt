@@ -2,7 +2,7 @@
 
 ghost use Rattle.dw_derive.specs.Decoded.{CodesAreRead};
 ghost use Rattle.dw_derive.specs.Documents.{DocumentsAreRead};
-ghost use Rattle.dw_derive.specs.EventsRead.{EventsAreRead, TablesTellEvents};
+ghost use Rattle.dw_derive.specs.EventsRead.{EventsAreRead, EventsAreGathered, TablesTellEvents};
 ghost use Rattle.dw_derive.specs.Laws.{TablesOfOneMore, EventsAreSteps, NumbersAreCells, CellsAreGiven};
 
 use dw_key::codes_tell_keys;
@@ -44,6 +44,11 @@ pub fn documents_are_read()
 /// The events of a world are read from the keys of its tables.
 pub fn events_are_read()
     ensures { EventsAreRead }
+{}
+
+/// Gathered cell by cell, they are what is held at each place.
+pub fn events_are_gathered()
+    ensures { EventsAreGathered }
 {}
 
 /// Worlds with equal tables have equal events.

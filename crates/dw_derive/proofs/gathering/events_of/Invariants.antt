@@ -1,0 +1,16 @@
+use Rattle.std.proofs.Common.{◌≡◌, drop, map, None}
+use Rattle.std.specs.Prelude.{filter_map}
+use Rattle.std.specs.BTreeMap.{get, IsOrdered}
+use Rattle.dw_event.specs.declared.records.Place.{Place}
+use Rattle.dw_event.specs.Places.{place_cmp}
+use Rattle.dw_outside.specs.declared.cell.Cell.{Cell}
+use Rattle.dw_derive.specs.EventsRead.{code_says, held_after}
+use Rattle.dw_derive.proofs.gathering.events_of.Given as goal
+
+abbrev pub invariant-loop-cell : goal.invariant-loop-cell
+invariant-loop-cell l =
+    let key = λ (c : Cell). c.key in
+    record {
+      held : (p : Place) → held_after p (get place_cmp l.events p) (filter_map code_says (map key (drop l.cell-index l.cells))) ≡ held_after p None (filter_map code_says (map key l.cells));
+      ordered : IsOrdered place_cmp l.events;
+    }
