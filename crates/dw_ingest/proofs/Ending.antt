@@ -1,5 +1,5 @@
 -- On a batch as a whole.
-use Rattle.std.proofs.Common.{◌≡◌, ◌≢◌, ◌≤◌, ◌<◌, ◌+◌, ◌++◌, ◌∷◌, [], ℕ, zero, suc, Bool, true, false, cond, nat_lt, List, Option, Some, None, Ok, Err, refl, sym, ap, subst, ◌∙◌, arith}
+use Rattle.std.proofs.Common.{◌≡◌, ◌≢◌, ◌≤◌, ◌+◌, ◌++◌, ◌∷◌, [], ℕ, Bool, true, false, cond, nat_lt, List, Option, Some, None, Ok, Err, refl, sym, ap, ◌∙◌, arith}
 use Rattle.std.specs.Prelude.{Result}
 use Rattle.std.specs.FinMap.{insert}
 use Rattle.std.proofs.lemmas.Bool.Decides.{nat_tests}
@@ -11,8 +11,9 @@ use Rattle.dw_event.specs.declared.reports.BadRecord.{BadRecord}
 use Rattle.dw_event.specs.declared.reports.Report.{Report}
 use Rattle.dw_event.specs.Cells.{cells_eq}
 use Rattle.dw_event.specs.Places.{place_of}
-use Rattle.dw_event.specs.Take.{Event, Taken, held_at, none_taken, with_held, with_record, with_records, taken, last_after, report_of}
+use Rattle.dw_event.specs.Take.{Taken, held_at, none_taken, with_held, with_record, with_records, taken, last_after, report_of}
 use Rattle.dw_outside.specs.declared.cell.Put.{Put}
+use Rattle.dw_outside.specs.declared.slot.Slot.{Slot}
 use Rattle.dw_outside.specs.Tables.{Tables, applied, over, puts_from, slot_of_put}
 use Rattle.dw_outside.proofs.Batches.{over_is}
 use Rattle.dw_derive.specs.Meta.{put_at, commit_slot, commit_bytes}
@@ -29,11 +30,11 @@ applied_last : (ps : List Put) (p : Put) (m : Tables) → applied (ps ++ p ∷ [
 applied_last [] p m = refl
 applied_last (q ∷ ps) p m = applied_last ps p (insert m (slot_of_put q) q.content)
 
--- a batch and its number
-pub numbered : (xs : List Put) (batch : Tables) (n : ℕ) (t : Tables) → xs ≡ puts_from batch ++ put_at commit_slot (commit_bytes n) ∷ [] → applied xs t ≡ insert (over batch t) commit_slot (commit_bytes n)
-numbered xs batch n t is =
-    ap (λ ps. applied ps t) is ∙ applied_last (puts_from batch) (put_at commit_slot (commit_bytes n)) t
-    ∙ ap (λ m. insert m commit_slot (commit_bytes n)) (over_is batch t)
+-- a batch and one cell more
+pub with_cell : (xs : List Put) (batch : Tables) (slot : Slot) (content : List ℕ) (t : Tables) → xs ≡ puts_from batch ++ put_at slot content ∷ [] → applied xs t ≡ insert (over batch t) slot content
+with_cell xs batch slot content t is =
+    ap (λ ps. applied ps t) is ∙ applied_last (puts_from batch) (put_at slot content) t
+    ∙ ap (λ m. insert m slot content) (over_is batch t)
 
 -- ---- where nothing is new
 

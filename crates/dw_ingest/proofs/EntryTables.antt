@@ -34,7 +34,7 @@ module _ {A : Type 0} (R : A → A → Ordering) (P : A → Type 0) where
       at Equal r = h
       at Greater r = (h.0, r)
 
-  all_items : (ys xs : List A) → AllByRecursion P ys → AllByRecursion P xs → AllByRecursion P (with_items R ys xs)
+  pub all_items : (ys xs : List A) → AllByRecursion P ys → AllByRecursion P xs → AllByRecursion P (with_items R ys xs)
   all_items ys [] h k = h
   all_items ys (x ∷ xs) h k = all_items (insert_key R ys x) xs (all_with ys x k.0 h) k.1
 
@@ -50,7 +50,7 @@ all_fit : (e : Event) (ns : List Entry) → AllByRecursion (Shape e) ns → AllB
 all_fit e [] h = tt
 all_fit e (n ∷ ns) h = (fits e n h.0, all_fit e ns h.1)
 
-all_at : {A : Type 0} (P : A → Type 0) (xs : List A) → AllByRecursion P xs → (k : ℕ) (d : A) → k < length xs → P (get_or xs k d)
+pub all_at : {A : Type 0} (P : A → Type 0) (xs : List A) → AllByRecursion P xs → (k : ℕ) (d : A) → k < length xs → P (get_or xs k d)
 all_at P [] h k d l = absurd (omega arith)
 all_at P (x ∷ xs) h zero d l = h.0
 all_at P (x ∷ xs) h (suc k) d l = all_at P xs h.1 k d (omega arith)

@@ -1,5 +1,5 @@
 -- On what a world keeps when a batch is taken.
-use Rattle.std.proofs.Common.{◌≡◌, ◌≢◌, ◌≤◌, ◌<◌, ◌+◌, ◌-◌, ◌^◌, ◌++◌, ◌∷◌, [], ℕ, Bool, true, false, cond, List, Option, Some, None, Ok, Err, refl, sym, ap, subst, ◌∙◌, arith}
+use Rattle.std.proofs.Common.{◌≡◌, ◌≢◌, ◌≤◌, ◌+◌, ◌++◌, ◌∷◌, [], ℕ, Bool, true, false, cond, List, Option, Some, None, Ok, Err, refl, sym, subst, ◌∙◌, arith}
 use Rattle.std.specs.Prelude.{Result}
 use Rattle.std.specs.List.{AllByRecursion}
 use Rattle.std.specs.BTreeMap.{insert_entry}
@@ -16,7 +16,7 @@ use Rattle.dw_event.specs.Places.{place_of, place_cmp}
 use Rattle.dw_event.specs.Take.{Event, Taken, held_at, none_taken, with_held, with_record, with_records, taken, last_after}
 use Rattle.dw_outside.specs.Tables.{Tables}
 use Rattle.dw_derive.specs.World.{World}
-use Rattle.dw_derive.specs.Lawful.{HasEvents, IsWorld}
+use Rattle.dw_derive.specs.Lawful.{IsWorld}
 use Rattle.dw_ingest.specs.declared.pending.Pending.{Pending}
 use Rattle.dw_ingest.specs.Going.{Going}
 use Rattle.dw_ingest.specs.Ingested.{after_taken, last_number}

@@ -1,5 +1,6 @@
 pub mod Lists
 pub mod Over
+pub mod NewIndexes
 pub mod EntryTables
 pub mod Items
 pub mod Steps

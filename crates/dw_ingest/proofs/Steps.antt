@@ -1,13 +1,11 @@
 -- On one record more.
-use Rattle.std.proofs.Common.{◌≡◌, ◌≢◌, ◌+◌, ◌<◌, ◌≤◌, ◌++◌, ◌||◌, ◌&&◌, ◌==◌, ◌^◌, ◌%◌, ◌∷◌, [], ℕ, zero, suc, Bool, true, false, nat_le, cond, List, length, take, Option, Some, None, Ok, Err, refl, sym, ap, subst, ◌∙◌, arith, IsTrue, decimal}
+use Rattle.std.proofs.Common.{◌≡◌, ◌+◌, ◌<◌, ◌≤◌, ◌++◌, ◌||◌, ◌&&◌, ◌==◌, ◌^◌, ◌∷◌, [], ℕ, Bool, true, false, nat_le, cond, List, length, take, Option, Some, None, Ok, Err, refl, sym, ap, subst, ◌∙◌, arith, decimal}
 use Rattle.std.specs.Option.{option_or, option_map_or}
-use Rattle.std.specs.Prelude.{Result}
 use Rattle.std.specs.List.{list_any, list_all, AllByRecursion}
 use Rattle.std.specs.List.Sorted.{IsStrictlySortedBy}
 use Rattle.std.specs.Map.{lookup, keys_of}
 use Rattle.std.specs.Cmp.{IsTotalOrder}
-use Rattle.std.specs.BTreeMap.{is_at, insert_entry, get, BTreeMap}
-use Rattle.std.specs.FinSet as set
+use Rattle.std.specs.BTreeMap.{is_at, insert_entry, get}
 use Rattle.std.specs.Ordering.{is_eq, match_ordering, ordering_reverse}
 use Rattle.std.specs.declared.cmp.Ordering.{Ordering}
 use Rattle.std.specs.declared.cmp.Ordering.TheVariants.{Less, Equal, Greater}
@@ -37,17 +35,16 @@ use Rattle.dw_event.specs.Places.{place_of, place_cmp, shard_number}
 use Rattle.dw_event.specs.Records.{IsWellFormed}
 use Rattle.dw_event.specs.Take.{Event, Taken, held_at, none_taken, with_held, with_record}
 use Rattle.dw_outside.specs.Tables.{Tables, over}
-use Rattle.dw_outside.specs.declared.slot.Slot.{Slot}
 use Rattle.dw_derive.specs.UidLists.{IsUid}
 use Rattle.dw_derive.specs.Entries.{slots_of}
 use Rattle.dw_derive.specs.Documents.{document_of, DocumentsAreRead}
 use Rattle.dw_derive.specs.World.{World}
 use Rattle.dw_derive.specs.Tables.{gives, tables}
-use Rattle.dw_derive.specs.Lawful.{record_of, IsShardOf, IsEvent, HasEvents, IsFree, with_event}
+use Rattle.dw_derive.specs.Lawful.{record_of, IsEvent, HasEvents, IsFree, with_event}
 use Rattle.dw_derive.specs.Laws.{stepped, EventsAreSteps}
 use Rattle.dw_derive.proofs.Lists.{any_inserted}
 use Rattle.dw_derive.proofs.Orders.{places_total}
-use Rattle.dw_derive.proofs.Shards.{left, right, KeepsRules, rules_of}
+use Rattle.dw_derive.proofs.Shards.{left, KeepsRules, rules_of}
 use Rattle.dw_ingest.specs.declared.standing.Standing.{Standing}
 use Rattle.dw_ingest.specs.declared.standing.Standing.TheVariants.{Free, Same, Other}
 use Rattle.dw_ingest.specs.declared.pending.Pending.{Pending}

@@ -3,3 +3,4 @@ pub mod Fitting
 pub mod Going
 pub mod Errors
 pub mod Ingested
+pub mod Reindexed

@@ -17,14 +17,14 @@ use dw_outside::{Keeper, KeeperError, Put, Slot, Store, batches_are_tables, read
 use std::alloc::Global;
 
 /// The bytes of the list of one uid.
-fn one_uid(alloc: Global, uid: &Uid) -> Result<Bytes, OutOfMemory>
+pub fn one_uid(alloc: Global, uid: &Uid) -> Result<Bytes, OutOfMemory>
     ensures { IfOk result (λ b. b ≡ list_of_one uid.now) }
 {
     encode_list(alloc, &UidList::one(alloc, *uid)?, Form::Two)
 }
 
 /// The bytes of a list with one uid more, in the form that it has. Bytes that are no list count for nothing.
-fn more_uids(alloc: Global, bytes: &[u8], uid: &Uid) -> Result<Bytes, OutOfMemory>
+pub fn more_uids(alloc: Global, bytes: &[u8], uid: &Uid) -> Result<Bytes, OutOfMemory>
     ensures { IfOk result (λ b. b ≡ list_with (Some bytes.now) uid.now) }
 {
     match decode_list(alloc, bytes) {

@@ -4,11 +4,13 @@
 mod growing;
 mod ingesting;
 mod pending;
+mod reindexing;
 mod standing;
 mod tally;
 
 pub use dw_base::OutOfMemory;
 pub use ingesting::{IngestError, LAST_BATCH, ingest};
+pub use reindexing::{ReindexError, reindex};
 
 #[cfg(test)]
 mod tests;

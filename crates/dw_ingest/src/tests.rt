@@ -1,4 +1,4 @@
-use crate::{IngestError, LAST_BATCH, ingest};
+use crate::{IngestError, LAST_BATCH, ReindexError, ingest, reindex};
 use dw_base::Text;
 use dw_derive::key_of;
 use dw_dict::{Dict, FieldRule};
@@ -205,5 +205,68 @@ fn cells_have_the_number_of_their_batch(rt: HostRuntime) -> Result<(), Fail> {
     // The field index of 0-1, 0-2 and 0-4, and then the two cells of each.
     let stamps = stamps_of(alloc, &mut keeper)?;
     assert_eq!(rt; stamps.as_slice(), [2, 1, 1, 2, 2, 1, 1, 1, 1].as_slice());
+    Ok(())
+}
+
+/// U becomes a field of words that is indexed, or None where its rule would not be wider.
+fn index_words(
+    alloc: Global,
+    keeper: &mut MemKeeper,
+) -> Result<Option<Result<u64, ReindexError>>, Fail> {
+    let dict = dictionary(alloc)?;
+    let rule = FieldRule::of(Kind::Text, true, false).ok_or("no rule")?;
+    if !rule.widens(&dict.look("U")) {
+        return Ok(None);
+    }
+    Ok(Some(reindex(alloc, keeper, &dict, "U", rule)))
+}
+
+/// Two events with A `1` and U `a` or `b`.
+fn two_words(alloc: Global) -> Result<Vec<Result<Record, BadRecord>>, Fail> {
+    let mut records = Vec::new(alloc);
+    records.push(Ok(lab_record(alloc, &[("A", "1"), ("U", "a"), ("ID", "0-1")])?))?;
+    records.push(Ok(lab_record(alloc, &[("A", "1"), ("U", "b"), ("ID", "0-2")])?))?;
+    Ok(records)
+}
+
+/// How many cells the tables 0 to 3 have.
+fn sizes(alloc: Global, keeper: &mut MemKeeper) -> Option<(usize, usize, usize, usize)> {
+    let (zeroth, _) = first_of(alloc, keeper, 0)?;
+    let (first, _) = first_of(alloc, keeper, 1)?;
+    let (second, _) = first_of(alloc, keeper, 2)?;
+    let (third, _) = first_of(alloc, keeper, 3)?;
+    Some((zeroth, first, second, third))
+}
+
+#[test]
+fn a_wider_rule_adds_its_cells(rt: HostRuntime) -> Result<(), Fail> {
+    let alloc = rt.alloc();
+    let mut keeper = MemKeeper::without_reads(alloc);
+    let records = two_words(alloc)?;
+    let report = taken(alloc, &mut keeper, 0, records.as_slice())?;
+    assert_eq!(rt; report, (2, 0, 0, 1));
+    assert!(rt; sizes(alloc, &mut keeper) == Some((8, 1, 0, 1)));
+    let count = index_words(alloc, &mut keeper)?.ok_or("no rule")?;
+    assert!(rt; count == Ok(4));
+    assert!(rt; sizes(alloc, &mut keeper) == Some((10, 3, 0, 2)));
+    // The cells of the field index have the batch of their events.
+    let stamps = stamps_of(alloc, &mut keeper)?;
+    assert!(rt; stamps.iter().all(|stamp| *stamp == 1));
+    Ok(())
+}
+
+#[test]
+fn a_fault_leaves_the_old_rule(rt: HostRuntime) -> Result<(), Fail> {
+    let alloc = rt.alloc();
+    let records = two_words(alloc)?;
+    for calls in 0..2u64 {
+        let mut keeper = MemKeeper::without_reads(alloc);
+        let report = taken(alloc, &mut keeper, 0, records.as_slice())?;
+        assert_eq!(rt; report, (2, 0, 0, 1));
+        keeper.fail_after(calls);
+        let failed = index_words(alloc, &mut keeper)?.ok_or("no rule")?;
+        assert!(rt; failed == Err(ReindexError::StoreFault));
+        assert!(rt; sizes(alloc, &mut keeper) == Some((8, 1, 0, 1)));
+    }
     Ok(())
 }

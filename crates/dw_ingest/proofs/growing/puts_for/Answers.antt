@@ -1,4 +1,4 @@
-use Rattle.std.proofs.Common.{rules, ◌≡◌, ◌≤◌, ◌+◌, ◌++◌, List, [], ◌∷◌, drop, map, ap, sym, ◌∙◌, append_assoc, arith}
+use Rattle.std.proofs.Common.{◌≡◌, ◌≤◌, ◌+◌, ◌++◌, List, [], ◌∷◌, drop, map, ap, sym, ◌∙◌, append_assoc, arith}
 use Rattle.dw_outside.specs.declared.slot.Slot.{Slot}
 use Rattle.dw_outside.specs.Tables.{over}
 use Rattle.dw_derive.specs.declared.event_cells.Entry.{Entry}

@@ -1,7 +1,6 @@
 use Rattle.std.proofs.Common.{◌≡◌, ◌≤◌, ◌++◌, drop, map}
 use Rattle.std.specs.Prelude.{Some, All}
 use Rattle.dw_outside.specs.Tables.{Tables, over}
-use Rattle.dw_derive.specs.declared.event_cells.Entry.{Entry}
 use Rattle.dw_derive.specs.Entries.{slot_of}
 use Rattle.dw_derive.specs.Laws.{put_of}
 use Rattle.dw_ingest.proofs.growing.puts_for.Given as goal

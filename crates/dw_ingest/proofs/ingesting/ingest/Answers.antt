@@ -1,12 +1,9 @@
-use Rattle.std.proofs.Common.{◌≡◌, ◌+◌, List, Some, Result, ap, sym, refl, subst, ◌∙◌}
+use Rattle.std.proofs.Common.{◌≡◌, ◌+◌, Some, ap, sym, refl, subst, ◌∙◌}
 use Rattle.std.specs.Option.{option_map}
 use Rattle.std.specs.FinMap.{insert}
-use Rattle.dw_event.specs.declared.records.Record.{Record}
-use Rattle.dw_event.specs.declared.reports.BadRecord.{BadRecord}
 use Rattle.dw_event.specs.Take.{Taken, taken, none_taken, with_records}
 use Rattle.dw_outside.specs.Tables.{over}
 use Rattle.dw_derive.specs.Meta.{commit_slot, commit_bytes}
-use Rattle.dw_derive.specs.World.{World}
 use Rattle.dw_derive.specs.Tables.{tables}
 use Rattle.dw_ingest.specs.Going.{Going}
 use Rattle.dw_ingest.proofs.Ending.{none_new, none_reported, some_reported, stored}

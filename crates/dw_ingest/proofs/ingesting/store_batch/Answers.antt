@@ -6,7 +6,7 @@ use Rattle.dw_outside.specs.declared.cell.Put.{Put}
 use Rattle.dw_outside.specs.Tables.{Tables, applied, over, puts_from}
 use Rattle.dw_derive.specs.Meta.{put_at, commit_slot, commit_bytes}
 use Rattle.dw_ingest.proofs.EntryTables.{puts_fit}
-use Rattle.dw_ingest.proofs.Ending.{numbered}
+use Rattle.dw_ingest.proofs.Ending.{with_cell}
 use Rattle.dw_ingest.proofs.ingesting.store_batch.Goals as goal
 
 pub apply-requires : goal.apply-requires
@@ -24,4 +24,4 @@ returns-clause-ok g c =
     let all : c.as_slice.result.now ≡ puts_from c.args.batch.now ++ put_at commit_slot (commit_bytes c.args.number) ∷ [] =
     c.as_slice.ensures.value ∙ c.in_ok-keep.ensures.kept ∙ (λ i. c.in_ok-puts.ensures i ++ c.in_ok-commit_cell.ensures i ∷ []) in
     let P : Option Tables → Type 0 = λ o. OnOk c.apply.result (g.K.Keeper.told c.apply.new.self ≡ o) in
-    subst P (mapped (applied c.as_slice.result.now) (λ t. insert (over c.args.batch.now t) commit_slot (commit_bytes c.args.number)) (λ t. numbered c.as_slice.result.now c.args.batch.now c.args.number t all) (g.K.Keeper.told c.args.keeper.now)) c.apply.ensures.ok
+    subst P (mapped (applied c.as_slice.result.now) (λ t. insert (over c.args.batch.now t) commit_slot (commit_bytes c.args.number)) (λ t. with_cell c.as_slice.result.now c.args.batch.now commit_slot (commit_bytes c.args.number) t all) (g.K.Keeper.told c.args.keeper.now)) c.apply.ensures.ok

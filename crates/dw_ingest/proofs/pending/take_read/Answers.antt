@@ -1,5 +1,4 @@
-use Rattle.std.proofs.Common.{◌≡◌, ◌+◌, ◌++◌, ◌∷◌, [], ◌^◌, ◌<◌, ap, sym, refl, subst, ◌∙◌, arith, IsTrue, true}
-use Rattle.std.specs.Option.{option_or}
+use Rattle.std.proofs.Common.{◌≡◌, ◌+◌, ◌++◌, ◌∷◌, [], ap, sym, refl, subst, ◌∙◌, arith, true}
 use Rattle.dw_key.specs.TypeName.{is_type_name}
 use Rattle.dw_event.specs.declared.records.Place.{Place}
 use Rattle.dw_event.specs.declared.reports.BadReason.TheVariants.{Clash}

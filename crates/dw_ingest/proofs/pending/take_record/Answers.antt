@@ -1,4 +1,4 @@
-use Rattle.std.proofs.Common.{◌≡◌, ◌+◌, ◌++◌, ◌∷◌, [], ap, sym, refl, subst, ◌∙◌}
+use Rattle.std.proofs.Common.{◌+◌, ◌++◌, ◌∷◌, [], ap, sym, refl, subst, ◌∙◌}
 use Rattle.dw_event.specs.declared.reports.BadReason.TheVariants.{Rule}
 use Rattle.dw_event.specs.Take.{Taken, with_record}
 use Rattle.dw_ingest.specs.declared.tally.Tally.{Tally}

@@ -1,7 +1,4 @@
-use Rattle.std.proofs.Common.{rules, ◌≡◌, ◌≤◌, ◌+◌, List, [], ◌∷◌, drop, ap, sym, subst, refl, ◌∙◌, arith}
-use Rattle.std.specs.Prelude.{Result}
-use Rattle.dw_event.specs.declared.records.Record.{Record}
-use Rattle.dw_event.specs.declared.reports.BadRecord.{BadRecord}
+use Rattle.std.proofs.Common.{rules, ◌+◌, ◌∷◌, drop, ap, sym, subst, refl, ◌∙◌, arith}
 use Rattle.dw_event.specs.Take.{Taken, none_taken, with_record, with_records}
 use Rattle.dw_ingest.specs.Going.{Going, AreWellFormed}
 use Rattle.dw_ingest.specs.Fitting.{FitsTables}
