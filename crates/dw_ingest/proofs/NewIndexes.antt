@@ -1,7 +1,7 @@
 -- On the cells that a field's new rule adds.
-use Rattle.std.proofs.Common.{◌≡◌, ◌≤◌, ◌&&◌, Bool, true, false, not, cond, T, List, [], ◌∷◌, ℕ, map, ap, refl, sym, ◌∙◌, arith}
+use Rattle.std.proofs.Common.{◌≡◌, ◌≤◌, ◌&&◌, ◌||◌, Bool, true, false, not, cond, T, List, [], ◌∷◌, ◌++◌, ℕ, map, ap, refl, sym, ◌∙◌, arith}
 use Rattle.std.specs.Prelude.{Option, Some, None, All}
-use Rattle.std.specs.List.{AllByRecursion}
+use Rattle.std.specs.List.{flat_map, AllByRecursion}
 use Rattle.std.specs.List.Sorted.{IsStrictlySortedBy}
 use Rattle.std.specs.Str.{bytes_eq}
 use Rattle.std.specs.Map.{keys_of}
@@ -18,10 +18,13 @@ use Rattle.dw_event.specs.declared.records.Place.{Place}
 use Rattle.dw_event.specs.Places.{place_cmp}
 use Rattle.dw_event.specs.Take.{Event, held_at}
 use Rattle.dw_outside.specs.declared.cell.Cell.{Cell}
-use Rattle.dw_outside.specs.Tables.{cell_pair}
+use Rattle.dw_outside.specs.Tables.{Tables, applied, cell_pair}
 use Rattle.dw_derive.specs.declared.event_cells.Entry.{Entry}
-use Rattle.dw_derive.specs.Entries.{forward_entries, backward_entries, entry_cmp}
-use Rattle.dw_derive.specs.Indexing.{entries_beside, cell_adds, entries_added}
+use Rattle.dw_derive.specs.Entries.{forward_entries, backward_entries, entry_cmp, slot_of}
+use Rattle.dw_derive.specs.Indexing.{entries_beside, cell_adds, entries_added, slots_added, all_stepped}
+use Rattle.dw_derive.specs.Laws.{put_of}
+use Rattle.dw_derive.specs.Tables.{uid_of}
+use Rattle.dw_ingest.specs.Reindexed.{adds_cells}
 use Rattle.dw_derive.proofs.Given.{all_append, all_flat}
 use Rattle.dw_derive.proofs.Orders.{places_total}
 use Rattle.dw_derive.proofs.Reading.{exact_places}
@@ -83,3 +86,30 @@ same_events es fs s t h = same_entries place_cmp places_total exact_places es fs
 pub keys_of_pairs : (cells : List Cell) → map (λ (c : Cell). c.key) cells ≡ map (λ (c : List ℕ × List ℕ). c.0) (map cell_pair cells)
 keys_of_pairs [] = refl
 keys_of_pairs (c ∷ cells) = ap (λ (ks : List (List ℕ)). c.key ∷ ks) (keys_of_pairs cells)
+
+-- ---- a rule that adds none
+
+none_both : (a b : Bool) → (a || b) ≡ false → (a ≡ false) × (b ≡ false)
+none_both true b h = cc
+none_both false b h = (refl, h)
+
+none_beside : (old rule : FieldRule) (e : Event) (c : EventCell) (o : Option (List ℕ)) → adds_cells old rule ≡ false → entries_beside old rule e c o ≡ []
+none_beside old rule e c None h = refl
+none_beside old rule e c (Some v) h =
+    let parts = none_both (rule.indexed && not old.indexed) (rule.reversed && not old.reversed) h in
+    λ i. cond (parts.0 i) (forward_entries e c v) [] ++ cond (parts.1 i) (backward_entries e c v) []
+
+none_added : (field : List ℕ) (old rule : FieldRule) (e : Event) → adds_cells old rule ≡ false → (cells : List EventCell) → flat_map (cell_adds field old rule e) cells ≡ []
+none_added field old rule e h [] = refl
+none_added field old rule e h (c ∷ cells) = at (bytes_eq c.field field) ∙ none_added field old rule e h cells
+  where
+    at : (b : Bool) → cond b (entries_beside old rule e c (norm rule.kind c.raw)) [] ++ flat_map (cell_adds field old rule e) cells ≡ flat_map (cell_adds field old rule e) cells
+    at true = ap (λ (ns : List Entry). ns ++ flat_map (cell_adds field old rule e) cells) (none_beside old rule e c (norm rule.kind c.raw) h)
+    at false = refl
+
+-- it makes nothing, whatever the events
+pub none_stepped : (field : List ℕ) (old rule : FieldRule) → adds_cells old rule ≡ false → (es : List Event) (m : Tables) → all_stepped (slots_added field old rule) es m ≡ m
+none_stepped field old rule h [] m = refl
+none_stepped field old rule h (e ∷ es) m =
+    ap (λ (ns : List Entry). all_stepped (slots_added field old rule) es (applied (map (put_of m (uid_of e)) (map slot_of ns)) m)) (none_added field old rule e h e.1.cells)
+    ∙ none_stepped field old rule h es m

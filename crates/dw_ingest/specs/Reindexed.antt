@@ -1,5 +1,5 @@
 -- A field that got a wider rule.
-use Rattle.std.specs.Prelude.{◌≡◌, ℕ, List, Option, Some, IsTrue}
+use Rattle.std.specs.Prelude.{◌≡◌, ℕ, ◌&&◌, ◌||◌, not, Bool, List, Option, Some, IsTrue}
 use Rattle.dw_base.specs.FieldNames.{is_folded_name}
 use Rattle.dw_dict.specs.declared.rule.FieldRule.{FieldRule}
 use Rattle.dw_outside.specs.Tables.{Tables}
@@ -8,6 +8,10 @@ use Rattle.dw_derive.specs.Tables.{tables}
 use Rattle.dw_derive.specs.Lawful.{IsWorld}
 use Rattle.dw_derive.specs.MetaTables.{with_rule}
 use Rattle.dw_derive.specs.Indexing.{new_cells}
+
+-- the rule adds cells to the indexes
+abbrev pub adds_cells : FieldRule → FieldRule → Bool
+adds_cells old rule = (rule.indexed && not old.indexed) || (rule.reversed && not old.reversed)
 
 -- the tables are those of the world with the rule, which keeps the rules of a world where the field's name keeps its
 -- limits, and the number counts the cells of the tables 0 to 2 that are new

@@ -15,7 +15,7 @@ ghost use Rattle.dw_derive.specs.Lawful.{HasEvents, IsWorld};
 ghost use Rattle.dw_derive.specs.Indexing.{slots_added, index_stepped, all_stepped, added_tables};
 ghost use Rattle.dw_ingest.specs.Fitting.{FitsTables};
 ghost use Rattle.dw_ingest.specs.Ingested.{Asks};
-ghost use Rattle.dw_ingest.specs.Reindexed.{Reindexed};
+ghost use Rattle.dw_ingest.specs.Reindexed.{Reindexed, adds_cells};
 
 use crate::OutOfMemory;
 use crate::growing::{keep, more_uids, one_uid};
@@ -147,7 +147,14 @@ fn index_of(
     Ok(batch)
 }
 
-/// The cells that a field's new rule adds to the tables, by one read of table 0.
+/// Whether a rule adds cells to the indexes, beside those of the old one.
+fn adds(old: FieldRule, rule: FieldRule) -> bool
+    ensures { result ≡ adds_cells old rule }
+{
+    (rule.indexed && !old.indexed) || (rule.reversed && !old.reversed)
+}
+
+/// The cells that a field's new rule adds to the tables, by one read of table 0, or by none where it adds none.
 fn added<K: Keeper>(
     alloc: Global,
     keeper: &mut K,
@@ -164,9 +171,13 @@ fn added<K: Keeper>(
 {
     events_are_gathered();
     indexes_are_steps();
+    let old = dict.look(field);
+    if !adds(old, rule) {
+        return Ok(Store::new(alloc));
+    }
     let cells = keeper.scan(0, b"", b"", 0)?;
     let events = events_of(alloc, cells.as_slice())?;
-    let batch = index_of(alloc, events, field, dict.look(field), rule)?;
+    let batch = index_of(alloc, events, field, old, rule)?;
     Ok(batch)
 }
 
