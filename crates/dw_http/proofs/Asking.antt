@@ -1,12 +1,12 @@
 -- The ask of a message that is held whole.
-use Rattle.std.proofs.Common.{◌≡◌, ◌≤◌, ◌+◌, ◌-◌, ◌∙◌, ℕ, Bool, List, ◌++◌, length, take, drop, refl, sym, ap, subst, drop-drop, length-drop, arith}
+use Rattle.std.proofs.Common.{◌≡◌, ◌≤◌, ◌+◌, ◌∙◌, ℕ, Bool, List, ◌++◌, length, take, drop, refl, sym, ap, subst, drop-drop, length-drop, arith}
 use Rattle.std.specs.Prelude.{codes, Result, Ok, Err, OnErr}
 use Rattle.httparse.specs.Grammar.{RequestHead}
 use Rattle.httparse.specs.declared.spans.RequestSpans.{RequestSpans}
 use Rattle.dw_http.specs.Heads.{Stands, NoneStands, max_head}
 use Rattle.dw_http.specs.Looks.{HasHead}
 use Rattle.dw_http.specs.Fields.{values_named}
-use Rattle.dw_http.specs.Messages.{Ask, Asker, Takes, asker_in, csv_in, closes, fields_of, ask_by, ask_of}
+use Rattle.dw_http.specs.Messages.{Ask, Asker, Takes, asker_in, csv_in, closes, fields_of, ask_of}
 use Rattle.dw_http.specs.Found.{OnNoHead}
 use Rattle.dw_http.specs.declared.head.Found.{Found}
 use Rattle.dw_http.specs.declared.head.Found.TheVariants.{Head, NotYet, TooMany, Never}

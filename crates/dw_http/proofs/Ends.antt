@@ -1,20 +1,19 @@
 -- How bytes end in which no whole message stands.
-use Rattle.std.proofs.Common.{◌≡◌, ◌≢◌, ◌<◌, ◌≤◌, ◌+◌, ◌∙◌, ◌⊎◌, ℕ, Bool, true, false, cond, List, [], ◌∷◌, ◌++◌, length, take, drop, refl, sym, ap, subst, length-append, length-drop, arith, inl, inr}
-use Rattle.std.specs.Prelude.{Option, Some, None, Result, Ok, Err, nat_lt, ◌||◌, ◌==◌, IsSome}
-use Rattle.std.proofs.lemmas.Bool.{lt-ltb}
+use Rattle.std.proofs.Common.{◌≡◌, ◌<◌, ◌+◌, ◌⊎◌, ℕ, Bool, true, false, cond, List, [], ◌∷◌, ◌++◌, length, drop, refl, sym, ap, subst, length-append, length-drop, arith, inl, inr}
+use Rattle.std.specs.Prelude.{Option, Some, None, Result, ◌==◌, IsSome}
 use Rattle.std.proofs.lemmas.List.{drop-append-le}
 use Rattle.dw_outside.specs.Links.{Meaning}
-use Rattle.dw_http.specs.Heads.{Stands, NoneStands, max_head}
+use Rattle.dw_http.specs.Heads.{Stands, NoneStands}
 use Rattle.dw_http.specs.Lines.{is_large}
-use Rattle.dw_http.specs.Held.{Held, Gathered}
+use Rattle.dw_http.specs.Held.{Held}
 use Rattle.dw_http.specs.Looks.{HasHead}
-use Rattle.dw_http.specs.Messages.{EndsAt, EndsInBody, End, done, bad, IsOpen, size_of}
+use Rattle.dw_http.specs.Messages.{EndsAt, EndsInBody, End, done, bad, IsOpen}
 use Rattle.dw_http.specs.Turns.{Goes}
 use Rattle.dw_http.specs.declared.intake.Stop.{Stop}
 use Rattle.dw_http.specs.declared.why.HttpWhy.{HttpWhy}
 use Rattle.dw_http.specs.declared.why.HttpWhy.TheVariants.{Large, Cut}
 use Rattle.dw_http.proofs.Heads.{stands_more}
-use Rattle.dw_http.proofs.Over.{none_more}
+use Rattle.dw_http.proofs.ManyLines.{none_large, large_stays, large_some}
 
 -- no head stands in bytes that are all
 pub ends_by : (bytes : List ℕ) (b : Bool) → 0 < length bytes → NoneStands bytes → is_large bytes ≡ b → EndsAt bytes (bad (cond b Large Cut))
@@ -24,19 +23,14 @@ pub ends_somehow : (bytes : List ℕ) → NoneStands bytes → (end : End) × En
 ends_somehow [] none = (done, inl (refl, refl))
 ends_somehow (b ∷ bytes) none = (bad (cond (is_large (b ∷ bytes)) Large Cut), ends_by (b ∷ bytes) (is_large (b ∷ bytes)) (omega arith) none refl)
 
-pub open_head : (bytes : List ℕ) → NoneStands bytes → length bytes ≤ max_head → IsOpen bytes
-open_head [] none few = inl refl
-open_head (b ∷ bytes) none few = inr (inl (omega arith, none, few))
+pub open_head : (bytes : List ℕ) → NoneStands bytes → is_large bytes ≡ false → IsOpen bytes
+open_head [] none small = inl refl
+open_head (b ∷ bytes) none small = inr (inl (omega arith, none, small))
 
--- more bytes than a head may have
-pub large_more : (bytes more : List ℕ) → max_head < length bytes → NoneStands bytes → EndsAt (bytes ++ more) (bad Large)
-large_more bytes more long none =
-    let all : max_head < length (bytes ++ more) = omega (arith, length-append bytes more) in
-    let large : is_large (bytes ++ more) ≡ true = large_by max_head (length (bytes ++ more)) _ all in
-    ends_by (bytes ++ more) true (omega (arith, length-append bytes more)) (none_more bytes more long none) large
-  where
-    large_by : (m n : ℕ) (b : Bool) → m < n → (nat_lt m n || b) ≡ true
-    large_by m n b less = ap (λ (t : Bool). t || b) (lt-ltb m n less)
+-- too large, whatever follows
+pub large_more : (bytes more : List ℕ) → is_large bytes ≡ true → NoneStands bytes → EndsAt (bytes ++ more) (bad Large)
+large_more bytes more large none =
+    ends_by (bytes ++ more) true (omega (arith, length-append bytes more, large_some bytes large)) (none_large bytes more none large) (large_stays bytes more large)
 
 -- a head stands and its body is not whole
 pub cut_in_body : (bytes : List ℕ) (head body : ℕ) → HasHead bytes head body → length bytes < head + body → EndsAt bytes (bad Cut)

@@ -1,10 +1,9 @@
 -- A head at the front of some bytes, and of more bytes.
-use Rattle.std.proofs.Common.{◌≡◌, ◌≤◌, ◌-◌, ◌+◌, ◌∙◌, ℕ, List, ◌++◌, length, take, drop, refl, sym, ap, subst, append_assoc, arith}
+use Rattle.std.proofs.Common.{◌≡◌, ◌≤◌, ◌-◌, ◌+◌, ◌∙◌, ℕ, List, ◌++◌, length, take, ap, arith}
 use Rattle.std.proofs.Math.Seq.{take-append-add}
-use Rattle.std.proofs.lemmas.List.{take-append-drop}
-use Rattle.httparse.specs.Grammar.{RequestHead, ReadsRequest, print_request}
+use Rattle.httparse.specs.Grammar.{RequestHead, print_request}
 use Rattle.httparse.proofs.GrammarLemmas.{request_unique, ReadsRequest-append}
-use Rattle.dw_http.specs.Heads.{Stands, NoneStands, IsHopeless, max_head}
+use Rattle.dw_http.specs.Heads.{Stands, NoneStands, max_head}
 
 pub stands_unique : (bytes : List ℕ) (h k : RequestHead) (r q : List ℕ) → Stands bytes h r → Stands bytes k q → (h ≡ k) × (r ≡ q)
 stands_unique bytes h k r q a b = request_unique bytes h k r q a.reads b.reads

@@ -6,6 +6,7 @@ pub mod More
 pub mod Taken
 pub mod Soon
 pub mod Over
+pub mod ManyLines
 pub mod Ends
 pub mod Turned
 pub mod Asking

@@ -1,23 +1,21 @@
 -- A conversation ends.
-use Rattle.std.proofs.Common.{◌≡◌, ◌<◌, ◌≤◌, ◌+◌, ◌∙◌, ◌⊎◌, ℕ, Bool, true, false, List, [], ◌∷◌, ◌++◌, length, take, drop, refl, sym, ap, subst, append_assoc, append-nil, length-append, arith, inl, inr}
-use Rattle.std.specs.Prelude.{Option, Some, None, IfSome, Ok, Err, Result, if◌then◌else◌}
-use Rattle.std.specs.Io.KnownBytes.{append_known, prepend_known, IsAtEnd}
+use Rattle.std.proofs.Common.{◌≡◌, ◌<◌, ◌≤◌, ◌∙◌, ◌⊎◌, ℕ, Bool, true, false, List, [], ◌∷◌, ◌++◌, length, take, drop, refl, sym, ap, subst, append_assoc, append-nil, length-append, arith, inl, inr}
+use Rattle.std.specs.Prelude.{Option, Some, IfSome, Err, Result}
+use Rattle.std.specs.Io.KnownBytes.{append_known, IsAtEnd}
 use Rattle.std.proofs.lemmas.List.{take-append-drop, take-append-le, length-take}
 use Rattle.dw_outside.specs.Faults.{Rose}
 use Rattle.dw_outside.specs.Links.{Meaning}
 use Rattle.httparse.specs.Grammar.{RequestHead, ReadsRequest, NeverHasRequest}
-use Rattle.dw_http.specs.Heads.{Stands, NoneStands, IsHopeless, max_head}
-use Rattle.dw_http.specs.Lines.{is_large}
+use Rattle.dw_http.specs.Heads.{Stands, NoneStands, max_head}
 use Rattle.dw_http.specs.Held.{Held, StoppedBy}
-use Rattle.dw_http.specs.Looks.{HasHead}
-use Rattle.dw_http.specs.Messages.{Ask, Takes, Begins, Closed, Messages, EndsAt, EndsInHead, EndsInBody, End, done, bad, IsOpen, size_of}
-use Rattle.dw_http.specs.Talks.{joined, Answered, Wrote, WroteLess, Wanted, Starts, Concludes, Exceeds, Stopped, Conversed, most_bytes}
+use Rattle.dw_http.specs.Messages.{Ask, Takes, Begins, Closed, EndsAt, EndsInBody, End, done, bad, IsOpen, size_of}
+use Rattle.dw_http.specs.Talks.{joined, Starts, Concludes, Exceeds, Stopped, Conversed}
 use Rattle.dw_http.specs.Texts.{last_reply}
 use Rattle.dw_http.specs.Turns.{SoFar, Refuses}
 use Rattle.dw_http.specs.declared.intake.Stop.{Stop}
 use Rattle.dw_http.specs.declared.intake.Stop.TheVariants.{Ended as AtEnd, TooMuch as Spent, ReadFault as Failed}
 use Rattle.dw_http.specs.declared.why.HttpWhy.{HttpWhy}
-use Rattle.dw_http.specs.declared.why.HttpWhy.TheVariants.{Head, Large, Cut}
+use Rattle.dw_http.specs.declared.why.HttpWhy.TheVariants.{Head}
 use Rattle.dw_http.specs.declared.talk.Ended.{Ended}
 use Rattle.dw_http.specs.declared.talk.Ended.TheVariants.{Done, ReadFault, WriteFault, BadHttp, TooMuch, OutOfMemory}
 use Rattle.dw_http.proofs.Heads.{stands_more, none_front}

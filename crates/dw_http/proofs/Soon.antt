@@ -1,8 +1,8 @@
 -- A conversation goes on.
-use Rattle.std.proofs.Common.{◌≡◌, ◌<◌, ◌≤◌, ◌+◌, ◌∙◌, ◌⊎◌, ℕ, Bool, true, false, cond, List, [], ◌∷◌, ◌++◌, length, take, drop, refl, sym, ap, subst, append_assoc, append-nil, length-append, zero-add, arith, inl, inr}
+use Rattle.std.proofs.Common.{◌≡◌, ◌<◌, ◌≤◌, ◌+◌, ◌∙◌, ℕ, Bool, true, false, cond, List, [], ◌∷◌, ◌++◌, drop, refl, sym, ap, subst, append_assoc, append-nil, length-append, zero-add, arith, inl, inr}
 use Rattle.std.specs.Prelude.{Option, Some, None, IfSome, IfNone, is_none, is_some, not}
 use Rattle.std.specs.Io.KnownBytes.{append_known, prepend_known, IsAtEnd}
-use Rattle.dw_outside.specs.Faults.{Rose, one_more}
+use Rattle.dw_outside.specs.Faults.{Rose}
 use Rattle.dw_outside.specs.Links.{Meaning}
 use Rattle.dw_http.specs.Held.{Held, StoppedBy, Gathered}
 use Rattle.dw_http.specs.declared.intake.Stop.{Stop}

@@ -1,12 +1,10 @@
 -- What one call of the link adds to the bytes held.
-use Rattle.std.proofs.Common.{◌≡◌, ◌<◌, ◌≤◌, ◌-◌, ◌+◌, ◌∙◌, ℕ, List, [], ◌++◌, length, refl, sym, ap, subst, append-nil, arith}
+use Rattle.std.proofs.Common.{◌≡◌, ◌≤◌, ◌-◌, ◌∙◌, ℕ, List, [], ◌++◌, length, refl, sym, ap, subst, append-nil, arith}
 use Rattle.std.specs.Prelude.{Option, Some, None}
-use Rattle.std.specs.Io.KnownBytes.{prepend_known, IsAtEnd}
-use Rattle.dw_outside.specs.Faults.{Rose}
+use Rattle.std.specs.Io.KnownBytes.{prepend_known}
 use Rattle.dw_outside.specs.Links.{Meaning}
 use Rattle.dw_http.specs.Held.{Held, StoppedBy, Gathered}
 use Rattle.dw_http.specs.declared.intake.Stop.{Stop}
-use Rattle.dw_http.specs.declared.intake.Stop.TheVariants.{Ended, TooMuch, ReadFault}
 
 module _ (before after : Meaning) (counted : before.reading.faults ≤ after.reading.faults) (writing : after.writing ≡ before.writing) (old new : Held) where
   -- no byte was kept

@@ -1,10 +1,10 @@
 -- A turn, from where it began to take bytes.
-use Rattle.std.proofs.Common.{◌≡◌, ◌<◌, ◌+◌, ℕ, List, length, arith}
+use Rattle.std.proofs.Common.{ℕ, List, arith}
 use Rattle.std.specs.Prelude.{Option, Some, None}
 use Rattle.dw_outside.specs.Links.{Meaning}
 use Rattle.dw_http.specs.Held.{Held}
 use Rattle.dw_http.specs.Messages.{Ask}
-use Rattle.dw_http.specs.Turns.{Goes, SoFar, Turns, Ends}
+use Rattle.dw_http.specs.Turns.{Goes, Turns, Ends}
 use Rattle.dw_http.specs.declared.talk.Ended.{Ended}
 use Rattle.dw_http.proofs.Soon.{so_far_goes}
 use Rattle.dw_http.proofs.Ends.{goes_sum}

@@ -1,5 +1,5 @@
 -- What the headers on the length of a body say.
-use Rattle.std.specs.Prelude.{ℕ, Bool, true, false, ◌==◌, ◌&&◌, List, [], ◌∷◌, length, Option, Some, None, option_and_then, nat_lt, nat_le, codes, Result, Ok, Err, if◌then◌else◌}
+use Rattle.std.specs.Prelude.{ℕ, false, ◌==◌, ◌&&◌, List, [], ◌∷◌, length, Option, Some, None, option_and_then, nat_le, codes, Result, Ok, Err, if◌then◌else◌}
 use Rattle.std.specs.List.{list_all}
 use Rattle.std.specs.Str.{all_ascii_digits}
 use Rattle.std.specs.Str.Parse.{digits_value}

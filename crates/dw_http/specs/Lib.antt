@@ -10,3 +10,4 @@ pub mod Looks
 pub mod Held
 pub mod Talks
 pub mod Turns
+pub mod Scans

@@ -3,7 +3,7 @@ use Rattle.std.specs.Prelude.{◌≡◌, ◌<◌, ◌≤◌, ◌⊎◌, ℕ, ◌
 use Rattle.std.specs.List.{list_any}
 use Rattle.httparse.specs.Grammar.{RequestHead}
 use Rattle.httparse.specs.Spans.{name_and_value}
-use Rattle.dw_http.specs.Heads.{Stands, NoneStands, IsHopeless, max_head}
+use Rattle.dw_http.specs.Heads.{Stands, NoneStands, IsHopeless}
 use Rattle.dw_http.specs.Lines.{is_large}
 use Rattle.dw_http.specs.Fields.{values_named, has_close, is_csv}
 use Rattle.dw_http.specs.Lengths.{size_in}
@@ -118,5 +118,5 @@ Messages bytes asks end =
 abbrev pub IsOpen : List ℕ → Type 0
 IsOpen bytes =
     (bytes ≡ [])
-    ⊎ ((0 < length bytes) × NoneStands bytes × (length bytes ≤ max_head))
+    ⊎ ((0 < length bytes) × NoneStands bytes × (is_large bytes ≡ false))
     ⊎ ((h : RequestHead) × (rest : List ℕ) × Stands bytes h rest × (size : ℕ) × (size_of h ≡ Ok size) × (length rest < size))

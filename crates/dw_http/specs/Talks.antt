@@ -1,6 +1,6 @@
 -- What a conversation takes, answers and writes.
-use Rattle.std.specs.Prelude.{◌≡◌, ◌<◌, ◌≤◌, ◌⊎◌, ℕ, ◌+◌, ◌^◌, true, false, List, [], ◌∷◌, ◌++◌, length, take, Option, Some, None, IfSome}
-use Rattle.std.specs.Io.KnownBytes.{append_known, prepend_known}
+use Rattle.std.specs.Prelude.{◌≡◌, ◌<◌, ◌≤◌, ◌⊎◌, ℕ, ◌^◌, List, [], ◌∷◌, ◌++◌, length, take, IfSome}
+use Rattle.std.specs.Io.KnownBytes.{append_known}
 use Rattle.dw_outside.specs.Faults.{Rose}
 use Rattle.dw_outside.specs.Links.{Meaning}
 use Rattle.dw_http.specs.Messages.{Ask, Begins, Closed, Messages, IsOpen, End, done, bad}

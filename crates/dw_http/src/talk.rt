@@ -1,12 +1,12 @@
-ghost use Rattle.std.specs.Prelude.{◌≡◌, ◌<◌, ◌≤◌, ◌+◌, ◌⊎◌, Ok, None, Some, length, IfOk, OnOk, IsSome};
+ghost use Rattle.std.specs.Prelude.{◌≡◌, ◌<◌, ◌≤◌, ◌+◌, ◌⊎◌, true, Ok, None, Some, length, IfOk, OnOk, IsSome};
 ghost use Rattle.dw_http.specs.Looks.{LooksAt, HasHead};
-ghost use Rattle.dw_http.specs.Heads.{NoneStands, max_head};
+ghost use Rattle.dw_http.specs.Heads.{NoneStands};
+ghost use Rattle.dw_http.specs.Lines.{is_large};
 ghost use Rattle.dw_http.specs.Turns.{Goes, Refuses, Turns, Ends};
 ghost use Rattle.dw_http.specs.Talks.{Conversed};
 
 use crate::OutOfMemory;
 use crate::answering::answer;
-use crate::head::MAX_HEAD;
 use crate::intake::{Intake, Stop};
 use crate::lines::too_large;
 use crate::looking::{Look, look_at};
@@ -37,14 +37,14 @@ pub enum Ended {
 fn find<L: Link>(alloc: Global, link: &mut L, intake: &mut Intake) -> Result<Look, OutOfMemory>
     ensures goes { OnOk result (Goes (L.meaning link.old) intake.old intake.new (L.meaning link.new)) }
     ensures looks { IfOk result (LooksAt intake.new.bytes) }
-    ensures waited { result ≡ Ok Look.NotYet → IsSome intake.new.stop ⊎ (max_head < length intake.new.bytes) }
+    ensures waited { result ≡ Ok Look.NotYet → IsSome intake.new.stop ⊎ (is_large intake.new.bytes ≡ true) }
     ensures writing { (L.meaning link.new).writing ≡ (L.meaning link.old).writing }
 {
     let mut scan = Scan::new();
     while intake.stop().is_none() {
         if scan.is_due(intake.as_slice()) {
             let look = look_at(alloc, intake.as_slice())?;
-            if !matches!(look, Look::NotYet) || intake.as_slice().len() > MAX_HEAD {
+            if !matches!(look, Look::NotYet) || too_large(intake.as_slice()) {
                 return Ok(look);
             }
         }
@@ -111,17 +111,17 @@ fn end_in_head<L: Link, H: Service>(
     service: &H,
 ) -> Ended
     requires none { NoneStands intake.now.bytes }
-    requires waited { IsSome intake.now.stop ⊎ (max_head < length intake.now.bytes) }
+    requires waited { IsSome intake.now.stop ⊎ (is_large intake.now.bytes ≡ true) }
     ensures { Ends H.answers H.stays (L.meaning link.old) intake.now service.now result (L.meaning link.new) service.now }
 {
     match intake.stop() {
         Some(Stop::Ended) => end_of_input(alloc, link, intake, service),
         Some(Stop::ReadFault) => Ended::ReadFault,
         Some(Stop::TooMuch) => {
-            if intake.as_slice().len() <= MAX_HEAD {
-                return Ended::TooMuch;
+            if too_large(intake.as_slice()) {
+                return refuse(alloc, link, HttpWhy::Large);
             }
-            refuse(alloc, link, HttpWhy::Large)
+            Ended::TooMuch
         }
         None => refuse(alloc, link, HttpWhy::Large),
     }

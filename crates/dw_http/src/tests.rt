@@ -246,6 +246,28 @@ fn a_head_has_its_limits(rt: HostRuntime) -> Result<(), Fail> {
     Ok(())
 }
 
+// The second read would fail.
+#[test]
+fn a_head_of_too_many_lines_is_answered_before_it_ends(rt: HostRuntime) -> Result<(), Fail> {
+    let alloc = rt.alloc();
+    let cases: [(&[u8], Ended); 3] = [
+        (b"", Ended::ReadFault),
+        (b"\r", Ended::ReadFault),
+        (b"a", Ended::BadHttp(HttpWhy::Large)),
+    ];
+    for (more, ended) in cases {
+        let mut head = long_head(alloc, 64, 0)?;
+        head.truncate(head.len().saturating_sub(2));
+        head.extend_from_slice(more)?;
+        let source = MemSource::new(Bytes::from_vec(head), 1_000, vec![in alloc; 2u64]?);
+        let sink = MemSink::new(alloc, 4096, Vec::new(alloc))?;
+        let mut link = MemLink::new(source, sink);
+        let mut service = Teller { alloc };
+        assert_eq!(rt; converse(alloc, &mut link, &mut service), ended);
+    }
+    Ok(())
+}
+
 #[test]
 fn faults_of_either_side_are_told_apart(rt: HostRuntime) -> Result<(), Fail> {
     let alloc = rt.alloc();

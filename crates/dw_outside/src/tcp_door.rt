@@ -69,9 +69,9 @@ impl<N: Net> Door for TcpDoor<N> {
         Ok(Some(TcpLink::new(stream)))
     }
 
-    /// Closes the connection.
+    /// Closes the connection, once its peer had time to take what was sent.
     fn dismiss(&mut self, link: TcpLink<N::Stream>) {
-        drop(link);
+        link.close();
         self.out = false;
     }
 }

@@ -10,7 +10,17 @@ use crate::link::Link;
 use crate::traits::{Failed, Sink, Source};
 use std::io::{Read, Write};
 use std::marker::Model;
-use std::net::{OpenStream, TcpStream};
+use std::net::{OpenStream, Shutdown, TcpStream};
+use std::time::Duration;
+
+/// How many pieces are taken at most of what still comes where a connection ends.
+const LAST_PIECES: u32 = 64;
+
+/// How many bytes a piece has at most.
+const LAST_PIECE: usize = 65_536;
+
+/// How many milliseconds each piece is waited for.
+const LAST_WAIT: u64 = 100;
 
 /// A connection, or another stream that is read and written, as a link that tells nothing of its bytes.
 #[derive(Drop)]
@@ -41,6 +51,27 @@ impl<S: Read + Write + OpenStream + Drop> TcpLink<S> {
             stream,
             read_faults: 0,
             write_faults: 0,
+        }
+    }
+
+    /// Sends no more, takes what still comes, up to a limit and while it comes soon, and closes. A stream that
+    /// is closed while bytes come is reset, and its peer may lose what was sent last (RFC 9112, section 9.6).
+    pub(crate) fn close(self) {
+        let TcpLink { mut stream, .. } = self;
+        let wait = Some(Duration::from_millis(LAST_WAIT));
+        if stream.shutdown(Shutdown::Write).is_ok() && stream.set_read_timeout(wait).is_ok() {
+            take_rest(&mut stream);
+        }
+    }
+}
+
+/// Takes what comes, and drops it.
+fn take_rest<S: Read>(stream: &mut S) {
+    let mut piece = [0u8; LAST_PIECE];
+    for _piece in 0..LAST_PIECES {
+        match stream.read(&mut piece) {
+            Ok(count) if count > 0 => {}
+            _ => return,
         }
     }
 }

@@ -191,3 +191,22 @@ fn a_connection_is_a_link(rt: HostRuntime) -> Result<(), Fail> {
     assert_eq!(rt; peer.read(&mut got)?, 0);
     Ok(())
 }
+
+// The bytes that nobody took would else reset the connection, and the reply would be lost.
+#[test]
+fn a_peer_that_still_writes_gets_the_reply(rt: HostRuntime) -> Result<(), Fail> {
+    let (mut door, port) = open_door(&rt).ok_or("no port is free")?;
+    let address = SocketAddr::V4(SocketAddrV4::new(Ipv4Addr::LOCALHOST, port));
+    let mut peer = TcpStream::connect(&rt, address)?;
+    peer.write_all(&[b'x'; 10_000])?;
+    let Ok(Some(mut link)) = door.admit() else {
+        panic!(rt; "no link")
+    };
+    assert_eq!(rt; link.send(b"reply"), Ok(()));
+    door.dismiss(link);
+    let mut got = [0u8; 6];
+    assert_eq!(rt; peer.read(&mut got)?, 5);
+    assert_eq!(rt; &got[..5], b"reply".as_slice());
+    assert_eq!(rt; peer.read(&mut got)?, 0);
+    Ok(())
+}

@@ -75,7 +75,7 @@ impl SqlKeeper<FileStore<FileFrom<Wary>>> {
     }
 }
 
-fn over<S: Alter + Drop>(
+pub(crate) fn over<S: Alter + Drop>(
     alloc: Global,
     mut conn: Connection<S>,
 ) -> Result<SqlKeeper<S>, KeeperError>

@@ -1,6 +1,5 @@
-use Rattle.std.proofs.Common.{◌≡◌, ◌+◌, ◌-◌, ◌∙◌, drop, take, refl, ap, arith, inl, inr}
+use Rattle.std.proofs.Common.{◌≡◌, ◌+◌, ◌-◌, ◌∙◌, drop, take, refl, ap, arith, inr}
 use Rattle.dw_http.specs.Asks.{asker_of}
-use Rattle.dw_http.specs.Heads.{max_head}
 use Rattle.dw_http.specs.Messages.{Ask}
 use Rattle.dw_http.proofs.Asking.{not_found, head_there, takes_ask, parts_are, stands_front_of, on_err}
 use Rattle.dw_http.proofs.answering.answer.Goals as goal

@@ -1,5 +1,4 @@
-use Rattle.std.proofs.Common.{◌≡◌, ◌∙◌, ℕ, List, sym, subst}
-use Rattle.std.specs.Prelude.{Result}
+use Rattle.std.proofs.Common.{ℕ, List, subst}
 use Rattle.std.specs.Str.Parse.{ParsesUnsigned}
 use Rattle.dw_http.proofs.Digits.{digits_parse, is_ok_at}
 use Rattle.dw_http.proofs.lengths.digits.Goals as goal

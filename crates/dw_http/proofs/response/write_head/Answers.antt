@@ -1,5 +1,5 @@
-use Rattle.std.proofs.Common.{List, ℕ, ◌++◌, ap, ◌∙◌, map}
-use Rattle.std.specs.Prelude.{codes, decimal, option_map}
+use Rattle.std.proofs.Common.{List, ℕ, ◌++◌, ap, ◌∙◌}
+use Rattle.std.specs.Prelude.{codes, option_map}
 use Rattle.http.specs.StatusCode.{status_text}
 use Rattle.dw_http.specs.Texts.{allow_line, close_line}
 use Rattle.dw_http.proofs.response.write_head.Goals as goal

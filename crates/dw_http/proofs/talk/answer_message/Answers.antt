@@ -1,11 +1,10 @@
-use Rattle.std.proofs.Common.{◌≡◌, ◌<◌, ◌+◌, ◌⊎◌, ℕ, true, false, List, [], ◌∷◌, ◌++◌, length, drop, take, sym, ap, subst, ◌∙◌, arith, length-drop}
+use Rattle.std.proofs.Common.{◌≡◌, ◌+◌, ◌⊎◌, ℕ, List, [], ◌∷◌, ◌++◌, length, drop, take, sym, ap, subst, ◌∙◌, arith, length-drop}
 use Rattle.std.specs.Io.KnownBytes.{append_known}
 use Rattle.dw_http.specs.Held.{Held}
-use Rattle.dw_http.specs.Messages.{Ask, Takes, bad}
+use Rattle.dw_http.specs.Messages.{Ask, Takes}
 use Rattle.dw_http.specs.Turns.{SoFar}
-use Rattle.dw_http.proofs.Over.{refused, concludes_so_far, refused_ends, never_ends, wanted_still, wanted_next, wrote_less, done_next}
-use Rattle.dw_http.proofs.Soon.{so_far_goes, so_far_next, so_far_start}
-use Rattle.dw_http.proofs.Turned.{turns_after, ends_after}
+use Rattle.dw_http.proofs.Over.{wanted_next, wrote_less, done_next}
+use Rattle.dw_http.proofs.Soon.{so_far_next}
 use Rattle.dw_http.proofs.talk.answer_message.Goals as goal
 
 pub returns-in-Err : goal.returns-in-Err

@@ -1,11 +1,10 @@
-use Rattle.std.proofs.Common.{◌≡◌, true, false, length, ◌<◌, ◌==◌, sym, ap, ◌∙◌, arith}
-use Rattle.std.specs.Prelude.{Some, None}
+use Rattle.std.proofs.Common.{◌≡◌}
+use Rattle.std.specs.Prelude.{Some}
 use Rattle.dw_http.specs.Messages.{bad}
-use Rattle.dw_http.specs.Lines.{is_large}
 use Rattle.dw_http.specs.declared.intake.Stop.TheVariants.{Ended, TooMuch, ReadFault}
-use Rattle.dw_http.specs.declared.why.HttpWhy.TheVariants.{Cut, Large, Head}
-use Rattle.dw_http.proofs.Over.{refused, concludes_at_end, concludes_so_far, failed, spent, done_at_end, refused_ends, never_ends, wanted_still, wanted_next, wrote_less, done_next}
-use Rattle.dw_http.proofs.Ends.{ends_by, ends_somehow, open_head, large_more, cut_in_body, open_body, nonempty}
+use Rattle.dw_http.specs.declared.why.HttpWhy.TheVariants.{Cut}
+use Rattle.dw_http.proofs.Over.{refused, concludes_at_end, failed, spent}
+use Rattle.dw_http.proofs.Ends.{cut_in_body, open_body}
 use Rattle.dw_http.proofs.talk.end_in_body.Goals as goal
 
 pub returns-in-Some-Ended : goal.returns-in-Some-Ended

@@ -1,4 +1,4 @@
-use Rattle.std.proofs.Common.{◌≡◌, ◌+◌, cond}
+use Rattle.std.proofs.Common.{◌≡◌, ◌+◌, ◌≤◌, cond, length}
 use Rattle.std.specs.Prelude.{is_none}
 use Rattle.dw_http.specs.Turns.{Goes}
 use Rattle.dw_http.proofs.talk.find.Given as goal
@@ -7,6 +7,7 @@ abbrev pub invariant-loop-scan : goal.invariant-loop-scan
 invariant-loop-scan g l = record {
   goes : Goes (g.L.Link.meaning l.fn.link) l.fn.intake l.intake (g.L.Link.meaning l.link);
   writing : (g.L.Link.meaning l.link).writing ≡ (g.L.Link.meaning l.fn.link).writing;
+  within : l.scan.at ≤ length l.intake.bytes;
 }
 
 abbrev pub decreases-loop-scan : goal.decreases-loop-scan

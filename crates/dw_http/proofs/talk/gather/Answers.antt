@@ -1,5 +1,4 @@
-use Rattle.std.proofs.Common.{sym, ap, ◌∙◌}
-use Rattle.std.specs.Prelude.{is_none}
+use Rattle.std.proofs.Common.{◌∙◌}
 use Rattle.dw_http.proofs.Soon.{none_by, goes_then}
 use Rattle.dw_http.proofs.talk.gather.Goals as goal
 

@@ -1,5 +1,5 @@
-use Rattle.std.proofs.Common.{◌≡◌, [], take, refl, sym, ap, ◌∙◌, arith, length-take}
-use Rattle.dw_http.specs.declared.intake.Stop.TheVariants.{Ended, TooMuch, ReadFault}
+use Rattle.std.proofs.Common.{[], take, refl, sym, ap, ◌∙◌, arith, length-take}
+use Rattle.dw_http.specs.declared.intake.Stop.TheVariants.{TooMuch, ReadFault}
 use Rattle.dw_http.specs.Held.{Held}
 use Rattle.dw_http.proofs.Taken.{halted}
 use Rattle.dw_http.proofs.intake.Intake.take_with.Goals as goal
