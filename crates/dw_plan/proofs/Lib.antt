@@ -1,2 +1,17 @@
 pub mod Leading
 pub mod Walking
+pub mod Named
+pub mod Joining
+pub mod Merging
+pub mod Sighted
+pub mod Past
+pub mod Told
+pub mod Fronts
+pub mod Keys
+pub mod Spanned
+pub mod Meeting
+pub mod Backward
+pub mod Gathering
+pub mod Valued
+pub mod Making
+pub mod Hitting
