@@ -15,3 +15,4 @@ pub mod Gathering
 pub mod Valued
 pub mod Making
 pub mod Hitting
+pub mod Neighbours

@@ -5,3 +5,4 @@ pub mod Spans
 pub mod Joins
 pub mod Cells
 pub mod Reads
+pub mod PlanLaws
