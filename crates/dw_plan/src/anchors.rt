@@ -5,7 +5,7 @@ use dw_eval::NQuery;
 
 #[tactic(auto, using(crate::proofs::Walking::and_goes_on, crate::proofs::Walking::and_ends, crate::proofs::Walking::or_goes_on, crate::proofs::Walking::or_ends, crate::proofs::Walking::and_over, crate::proofs::Walking::or_over))]
 /// Whether a query is anchored where it stands at a positive or at a negative place.
-fn anchored_at(query: &NQuery, positive: bool) -> bool
+pub(crate) fn anchored_at(query: &NQuery, positive: bool) -> bool
     ensures { result ≡ anchored_at query.now positive }
 {
     match query {

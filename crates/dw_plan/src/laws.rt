@@ -1,9 +1,16 @@
 //! What holds of all anchored queries. The functions do nothing: their contracts are laws.
 
 ghost use Rattle.dw_plan.specs.Anchored.{AnchorsLead};
+ghost use Rattle.dw_plan.specs.PlanLaws.{NeighboursJoin};
 
 /// Values that satisfy an anchored query meet one of its anchors, so that no event without a value in an index
 /// answers it.
 pub fn anchors_lead()
     ensures { AnchorsLead }
+{}
+
+/// The hit shards of two neighbouring ranges of days, one after the other, are those of both together, so that
+/// days may be planned in stretches.
+pub fn neighbours_join()
+    ensures { NeighboursJoin }
 {}

@@ -1,8 +1,17 @@
-//! Which shards a query looks at: whether an index leads to its answers.
+//! Which shards a query looks at: whether an index leads to its answers, and to which shards it leads.
 #![tactic(auto)]
 
 mod anchors;
+mod cells;
+mod hits;
+mod joins;
 mod laws;
+mod planning;
+mod sight;
+mod spans;
+mod wanted;
 
 pub use anchors::anchored;
-pub use laws::anchors_lead;
+pub use dw_base::OutOfMemory;
+pub use laws::{anchors_lead, neighbours_join};
+pub use planning::shards;
