@@ -16,3 +16,6 @@ pub mod Valued
 pub mod Making
 pub mod Hitting
 pub mod Neighbours
+pub mod NormTexts
+pub mod EventShards
+pub mod Answering

@@ -1,11 +1,23 @@
 -- What holds of all hit shards.
-use Rattle.std.specs.Prelude.{◌≡◌, ◌⊎◌, ℕ, true, List, ◌++◌, take}
+use Rattle.std.specs.Prelude.{◌≡◌, ◌≢◌, ◌⊎◌, ◌&&◌, ℕ, Bool, true, List, ◌++◌, take}
+use Rattle.std.specs.List.{list_all, AllByRecursion}
 use Rattle.std.specs.Ordering.{nat_cmp, is_le}
 use Rattle.std.specs.Cmp.Lexicographic.{slice_cmp}
 use Rattle.std.specs.declared.cmp.Ordering.TheVariants.{Less}
+use Rattle.dw_dict.specs.declared.rule.FieldRule.{FieldRule}
+use Rattle.dw_dict.specs.Dictionary.{Dictionary, rule_of}
+use Rattle.dw_dict.specs.Rules.{Widens, widens}
 use Rattle.dw_event.specs.declared.types.Types.{Types}
 use Rattle.dw_outside.specs.Tables.{Tables}
+use Rattle.dw_derive.specs.World.{World}
+use Rattle.dw_derive.specs.Tables.{tables}
+use Rattle.dw_derive.specs.Lawful.{IsWorld}
+use Rattle.dw_eval.specs.Answer.{answer_of}
+use Rattle.dw_eval.specs.declared.open_query.OpenQuery.{OpenQuery}
 use Rattle.dw_eval.specs.declared.nquery.NQuery.{NQuery}
+use Rattle.dw_eval.specs.declared.nquery.NQuery.TheOpen.{NQuery-F, Equal, Below, Above, Between, Starts, Ends, Holds, Not, And, Or}
+use Rattle.dw_eval.specs.declared.nquery.NQuery.TheFolds.{fold-NQuery}
+use Rattle.dw_plan.specs.Anchored.{anchored}
 use Rattle.dw_plan.specs.Hit.{is_shard_name, named_shards, hit_shards}
 use Rattle.dw_plan.specs.Joins.{has}
 
@@ -22,3 +34,35 @@ abbrev pub NeighboursJoin : Type 0
 NeighboursJoin = (q : NQuery) (names : List (List ℕ)) (types : Types) (t : Tables) (first end next last : List ℕ) → AreNeighbours t names first end next last →
     hit_shards q names (record { first = first; last = end }) types t ++ hit_shards q names (record { first = next; last = last }) types t
     ≡ hit_shards q names (record { first = first; last = last }) types t
+
+-- ---- answers
+
+abbrev pub is_ruled_as : Dictionary → List ℕ → FieldRule → Bool
+is_ruled_as dict field rule = widens (rule_of dict field) rule && widens rule (rule_of dict field)
+
+abbrev pub ruled_step : Dictionary → NQuery-F Bool → Bool
+ruled_step dict (Equal field rule value) = is_ruled_as dict field rule
+ruled_step dict (Below field rule value edge) = is_ruled_as dict field rule
+ruled_step dict (Above field rule value edge) = is_ruled_as dict field rule
+ruled_step dict (Between field rule low low_edge high high_edge) = is_ruled_as dict field rule
+ruled_step dict (Starts field rule text) = is_ruled_as dict field rule
+ruled_step dict (Ends field rule text) = is_ruled_as dict field rule
+ruled_step dict (Holds field rule text) = is_ruled_as dict field rule
+ruled_step dict (Not child) = child
+ruled_step dict (And children) = list_all (λ b. b) children
+ruled_step dict (Or children) = list_all (λ b. b) children
+
+-- each leaf has the rule that the dictionary gives to its field
+abbrev pub is_ruled : Dictionary → NQuery → Bool
+is_ruled dict = fold-NQuery Bool (ruled_step dict)
+
+-- an anchored query with the rules of its own dictionary, each of which the world's rule widens where the query sees a batch
+pub record StandsFor (w : World) (q : OpenQuery) : Type 0 where
+  pub anchor : anchored q.query ≡ true
+  pub ruled : is_ruled q.dict q.query ≡ true
+  pub widened : q.snapshot ≢ 0 → (field : List ℕ) → Widens (rule_of w.dict field) (rule_of q.dict field)
+
+-- what answers a query stands in a shard that it reads
+abbrev pub AnswersAreHit : Type 0
+AnswersAreHit = (w : World) (q : OpenQuery) → IsWorld w → StandsFor w q →
+    AllByRecursion (λ s. has (hit_shards q.query q.auths q.days q.types (tables w)) s.shard ≡ true) (answer_of q w.events)
