@@ -90,7 +90,7 @@ stands_any p (y ∷ ys) x (inl e) k = or_left (p y) (list_any p ys) (ap p e ∙ 
 stands_any p (y ∷ ys) x (inr h) k = or_right (p y) (list_any p ys) (stands_any p ys x h k)
 
 -- what passes one test among those that pass another passes a third
-any_of_all : {A : Type 0} (r p q : A → Bool) → ((x : A) → r x ≡ true → p x ≡ true → q x ≡ true) → (xs : List A) → list_all r xs ≡ true → list_any p xs ≡ true → list_any q xs ≡ true
+pub any_of_all : {A : Type 0} (r p q : A → Bool) → ((x : A) → r x ≡ true → p x ≡ true → q x ≡ true) → (xs : List A) → list_all r xs ≡ true → list_any p xs ≡ true → list_any q xs ≡ true
 any_of_all r p q f [] all h = cc
 any_of_all r p q f (x ∷ xs) all h =
     let parts = and_parts (r x) (list_all r xs) all in
@@ -104,11 +104,11 @@ all_more : {A : Type 0} (P Q : A → Type 0) → ((x : A) → P x → Q x) → (
 all_more P Q f [] h = tt
 all_more P Q f (x ∷ xs) h = (f x h.0, all_more P Q f xs h.1)
 
-all_both : {A : Type 0} (P Q : A → Type 0) (xs : List A) → AllByRecursion P xs → AllByRecursion Q xs → AllByRecursion (λ x. P x × Q x) xs
+pub all_both : {A : Type 0} (P Q : A → Type 0) (xs : List A) → AllByRecursion P xs → AllByRecursion Q xs → AllByRecursion (λ x. P x × Q x) xs
 all_both P Q [] h k = tt
 all_both P Q (x ∷ xs) h k = ((h.0, k.0), all_both P Q xs h.1 k.1)
 
-all_stand : {A : Type 0} (xs : List A) → AllByRecursion (StandsIn xs) xs
+pub all_stand : {A : Type 0} (xs : List A) → AllByRecursion (StandsIn xs) xs
 all_stand [] = tt
 all_stand (x ∷ xs) = (inl refl, all_more (StandsIn xs) (StandsIn (x ∷ xs)) (λ y h. inr h) xs (all_stand xs))
 
@@ -123,6 +123,34 @@ pairs_total = then_total (on_total (λ p. p.field) nat_list_cmp_total) (on_total
 passed : (test : List ℕ → Bool) (o : Option (List ℕ)) → passes test o ≡ true → (v : List ℕ) × (o ≡ Some v) × (test v ≡ true)
 passed test None h = cc
 passed test (Some v) h = (v, refl, h)
+
+-- ---- rules
+
+module _ (w : World) (dict : Dictionary) (widened : (field : List ℕ) → Widens (rule_of w.dict field) (rule_of dict field)) where
+  -- the world indexes what the leaf's rule says
+  pub indexed_there : (field : List ℕ) (rule : FieldRule) → is_ruled_as dict field rule ≡ true → rule.indexed ≡ true → (rule_of w.dict field).indexed ≡ true
+  indexed_there field rule h i =
+      let p = and_parts (widens (rule_of dict field) rule) (widens rule (rule_of dict field)) h in
+      let d = rule_of dict field in
+      let parts = and_parts (kind_number d.kind == kind_number rule.kind) (d.indexed || not rule.indexed) (and_parts ((kind_number d.kind == kind_number rule.kind) && (d.indexed || not rule.indexed)) (d.reversed || not rule.reversed) p.0).0 in
+      (widened field).1 (kept d.indexed rule.indexed parts.1 i)
+    where
+      kept : (a b : Bool) → (a || not b) ≡ true → b ≡ true → a ≡ true
+      kept true b g k = refl
+      kept false true g k = cc
+      kept false false g k = cc
+
+  pub reversed_there : (field : List ℕ) (rule : FieldRule) → is_ruled_as dict field rule ≡ true → rule.reversed ≡ true → (rule_of w.dict field).reversed ≡ true
+  reversed_there field rule h i =
+      let p = and_parts (widens (rule_of dict field) rule) (widens rule (rule_of dict field)) h in
+      let d = rule_of dict field in
+      let part = (and_parts ((kind_number d.kind == kind_number rule.kind) && (d.indexed || not rule.indexed)) (d.reversed || not rule.reversed) p.0).1 in
+      (widened field).2 (kept d.reversed rule.reversed part i)
+    where
+      kept : (a b : Bool) → (a || not b) ≡ true → b ≡ true → a ≡ true
+      kept true b g k = refl
+      kept false true g k = cc
+      kept false false g k = cc
 
 -- ---- the cells of an event
 
@@ -160,7 +188,7 @@ module _ (w : World) (names : List (List ℕ)) (types : Types) (e : Event) (lawf
       ∙ h)
 
   -- a value of an indexed field stands in table 1
-  forward_entry : (test : GlobalReading → Bool) (c : EventCell) (v : List ℕ) → (rule_of w.dict c.field).indexed ≡ true → norm (rule_of w.dict c.field).kind c.raw ≡ Some v → is_cell c ≡ true → sees c.vis names ≡ true → is_utf8 v ≡ true → test (reading c v) ≡ true
+  pub forward_entry : (test : GlobalReading → Bool) (c : EventCell) (v : List ℕ) → (rule_of w.dict c.field).indexed ≡ true → norm (rule_of w.dict c.field).kind c.raw ≡ Some v → is_cell c ≡ true → sees c.vis names ≡ true → is_utf8 v ≡ true → test (reading c v) ≡ true
       → list_any (λ m. has_key 1 (keyed test) (slot_of m)) (cell_entries w.dict e c) ≡ true
   forward_entry test c v indexed form cell seen utf8 h =
       let p = λ (m : Entry). has_key 1 (keyed test) (slot_of m) in
@@ -171,7 +199,7 @@ module _ (w : World) (names : List (List ℕ)) (types : Types) (e : Event) (lawf
       (ap (λ b. list_any p (cond b (forward_entries e c v) [])) indexed ∙ or_left (has_key 1 (keyed test) (record { table = 1; key = code (global_key e c v) })) false (key_passes 1 test c v cell seen utf8 h))
 
   -- and one of a reversed field, back to front, in table 2
-  backward_entry : (test : GlobalReading → Bool) (c : EventCell) (v : List ℕ) → (rule_of w.dict c.field).reversed ≡ true → norm (rule_of w.dict c.field).kind c.raw ≡ Some v → is_cell c ≡ true → sees c.vis names ≡ true → is_utf8 (rev v) ≡ true → test (reading c (rev v)) ≡ true
+  pub backward_entry : (test : GlobalReading → Bool) (c : EventCell) (v : List ℕ) → (rule_of w.dict c.field).reversed ≡ true → norm (rule_of w.dict c.field).kind c.raw ≡ Some v → is_cell c ≡ true → sees c.vis names ≡ true → is_utf8 (rev v) ≡ true → test (reading c (rev v)) ≡ true
       → list_any (λ m. has_key 2 (keyed test) (slot_of m)) (cell_entries w.dict e c) ≡ true
   backward_entry test c v reversed form cell seen utf8 h =
       let p = λ (m : Entry). has_key 2 (keyed test) (slot_of m) in
@@ -320,31 +348,6 @@ module _ (w : World) (names : List (List ℕ)) (types : Types) (e : Event) (lawf
           at true s k g more = cc
           at false s k g more = and_from (stay c.0 false) (rest true false cs) (c.1 false g s) (more k)
 
-      -- the world indexes what the leaf's rule says
-      indexed_there : (field : List ℕ) (rule : FieldRule) → is_ruled_as dict field rule ≡ true → rule.indexed ≡ true → (rule_of w.dict field).indexed ≡ true
-      indexed_there field rule h i =
-          let p = and_parts (widens (rule_of dict field) rule) (widens rule (rule_of dict field)) h in
-          let d = rule_of dict field in
-          let parts = and_parts (kind_number d.kind == kind_number rule.kind) (d.indexed || not rule.indexed) (and_parts ((kind_number d.kind == kind_number rule.kind) && (d.indexed || not rule.indexed)) (d.reversed || not rule.reversed) p.0).0 in
-          (widened field).1 (kept d.indexed rule.indexed parts.1 i)
-        where
-          kept : (a b : Bool) → (a || not b) ≡ true → b ≡ true → a ≡ true
-          kept true b g k = refl
-          kept false true g k = cc
-          kept false false g k = cc
-
-      reversed_there : (field : List ℕ) (rule : FieldRule) → is_ruled_as dict field rule ≡ true → rule.reversed ≡ true → (rule_of w.dict field).reversed ≡ true
-      reversed_there field rule h i =
-          let p = and_parts (widens (rule_of dict field) rule) (widens rule (rule_of dict field)) h in
-          let d = rule_of dict field in
-          let part = (and_parts ((kind_number d.kind == kind_number rule.kind) && (d.indexed || not rule.indexed)) (d.reversed || not rule.reversed) p.0).1 in
-          (widened field).2 (kept d.reversed rule.reversed part i)
-        where
-          kept : (a b : Bool) → (a || not b) ≡ true → b ≡ true → a ≡ true
-          kept true b g k = refl
-          kept false true g k = cc
-          kept false false g k = cc
-
       -- a leaf at a positive place that is an anchor is met
       held : (anchor met : Bool) → (anchor ≡ true → met ≡ true) → holds_leaf anchor met ≡ true
       held true met f = f refl
@@ -361,12 +364,12 @@ module _ (w : World) (names : List (List ℕ)) (types : Types) (e : Event) (lawf
       by_table_1 : (y : NQuery-F NQuery) (field : List ℕ) (rule : FieldRule) (meets : List ℕ → Bool) → ruled_step dict (map-NQuery NQuery Bool (is_ruled dict) y) ≡ is_ruled_as dict field rule → sat_step view (map-NQuery NQuery Bool (sat view) y) ≡ some_value view field meets
           → is_ruled dict (roll-NQuery y) ≡ true → sat view (roll-NQuery y) ≡ true → rule.indexed ≡ true → forward (tables w) names types e.0.shard field meets ≡ true
       by_table_1 y field rule meets a b r h i =
-          forward_met field meets (widened field).0 (indexed_there field rule (sym a ∙ sym (ruled_of y) ∙ r) i) (sym b ∙ sym (sat_of y) ∙ h)
+          forward_met field meets (widened field).0 (indexed_there w dict widened field rule (sym a ∙ sym (ruled_of y) ∙ r) i) (sym b ∙ sym (sat_of y) ∙ h)
 
       by_table_2 : (y : NQuery-F NQuery) (field : List ℕ) (rule : FieldRule) (meets : List ℕ → Bool) → ruled_step dict (map-NQuery NQuery Bool (is_ruled dict) y) ≡ is_ruled_as dict field rule → sat_step view (map-NQuery NQuery Bool (sat view) y) ≡ some_value view field meets
           → is_ruled dict (roll-NQuery y) ≡ true → sat view (roll-NQuery y) ≡ true → rule.reversed ≡ true → backward (tables w) names types e.0.shard field meets ≡ true
       by_table_2 y field rule meets a b r h i =
-          backward_met field meets (widened field).0 (reversed_there field rule (sym a ∙ sym (ruled_of y) ∙ r) i) (sym b ∙ sym (sat_of y) ∙ h)
+          backward_met field meets (widened field).0 (reversed_there w dict widened field rule (sym a ∙ sym (ruled_of y) ∙ r) i) (sym b ∙ sym (sat_of y) ∙ h)
 
       not_place : (b place : Bool) → not b ≡ place → b ≡ not place
       not_place true place h = ap not h

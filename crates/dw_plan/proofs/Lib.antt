@@ -19,3 +19,4 @@ pub mod Neighbours
 pub mod NormTexts
 pub mod EventShards
 pub mod Answering
+pub mod Others
