@@ -1,9 +1,8 @@
 -- For the tables of a world, the cells of the other table change no plan.
 use Rattle.std.proofs.Common.{◌≡◌, ℕ, ◌==◌, Bool, true, false, cond, not, ◌&&◌, ◌||◌, nat_eq, List, [], ◌∷◌, ◌++◌, map, Option, Some, None, refl, sym, ap, subst, ◌∙◌, arith}
 use Rattle.std.specs.Option.{option_map_or}
-use Rattle.std.specs.List.{list_all, list_any, filter, starts_with, ends_with, AllByRecursion}
+use Rattle.std.specs.List.{list_all, list_any, starts_with, ends_with, AllByRecursion}
 use Rattle.std.specs.Str.{is_utf8, IsUtf8}
-use Rattle.std.specs.FinMap.{keys}
 use Rattle.std.proofs.lemmas.Bool.{and_parts, and_from}
 use Rattle.std.proofs.lemmas.Str.{IsUtf8-from_is_utf8, is_utf8-from_IsUtf8}
 use Rattle.dw_base.proofs.Members.{StandsIn}
