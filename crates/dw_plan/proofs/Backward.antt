@@ -29,7 +29,7 @@ utf8_backwards (c ∷ cs) h =
     let one : IsUtf8 (encodes (c ∷ [])) = (c ∷ [], (and_from _ true parts.0 refl, refl)) in
     subst IsUtf8 (sym (ap encodes (reverse-append (c ∷ []) cs) ∙ encodes-append (reverse cs) (c ∷ []))) (IsUtf8-append _ _ (utf8_backwards cs parts.1) one)
 
-utf8_reversed : (text : List ℕ) → IsUtf8 text → IsUtf8 (rev text)
+pub utf8_reversed : (text : List ℕ) → IsUtf8 text → IsUtf8 (rev text)
 unfolding rev
 utf8_reversed text u = utf8_backwards (chars text) (scalars-chars text u)
 

@@ -16,3 +16,7 @@ pub mod Valued
 pub mod Making
 pub mod Hitting
 pub mod Neighbours
+pub mod NormTexts
+pub mod EventShards
+pub mod Answering
+pub mod Others

@@ -1,5 +1,5 @@
 -- On ranges of days that are cut in two.
-use Rattle.std.proofs.Common.{◌≡◌, ◌⊎◌, inl, inr, ℕ, zero, suc, Bool, true, false, cond, not, ◌&&◌, List, [], ◌∷◌, ◌++◌, take, refl, sym, ap, subst, ◌∙◌}
+use Rattle.std.proofs.Common.{◌≡◌, ◌⊎◌, inl, inr, ℕ, zero, suc, Bool, true, false, cond, not, ◌&&◌, List, [], ◌∷◌, ◌++◌, take, refl, sym, ap, ◌∙◌}
 use Rattle.std.specs.List.{filter, AllByRecursion}
 use Rattle.std.specs.List.Sorted.{IsStrictlySortedBy}
 use Rattle.std.specs.Cmp.Lexicographic.{slice_cmp, nat_list_cmp_total}
@@ -13,7 +13,7 @@ use Rattle.dw_event.specs.declared.days.Days.{Days}
 use Rattle.dw_event.specs.declared.types.Types.{Types}
 use Rattle.dw_outside.specs.Tables.{Tables}
 use Rattle.dw_eval.specs.declared.nquery.NQuery.{NQuery}
-use Rattle.dw_plan.specs.Hit.{is_shard_name, is_in_days, is_no, truth_at, is_hit, named_shards, hit_shards}
+use Rattle.dw_plan.specs.Hit.{is_shard_name, is_no, truth_at, is_hit, named_shards, hit_shards}
 use Rattle.dw_plan.specs.Joins.{has}
 use Rattle.dw_plan.specs.PlanLaws.{AreNeighbours, NeighboursJoin}
 use Rattle.dw_plan.proofs.Named.{stands_has}

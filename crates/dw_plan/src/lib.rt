@@ -13,5 +13,5 @@ mod wanted;
 
 pub use anchors::anchored;
 pub use dw_base::OutOfMemory;
-pub use laws::{anchors_lead, neighbours_join};
+pub use laws::{anchors_lead, answers_are_hit, neighbours_join, other_table_adds_nothing};
 pub use planning::shards;
