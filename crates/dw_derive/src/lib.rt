@@ -5,6 +5,7 @@
 mod documents;
 mod event_cells;
 mod gathering;
+mod index_laws;
 mod list_bytes;
 mod meta;
 mod meta_laws;
@@ -18,12 +19,14 @@ pub use documents::{cell_of, cells_of, document, document_span, key_of};
 pub use dw_base::OutOfMemory;
 pub use event_cells::{Entry, doc_text, entries, entries_added};
 pub use gathering::events_of;
+pub use index_laws::{
+    added_are_new, indexes_are_added, indexes_are_steps, wider_rules_keep_worlds,
+};
 pub use list_bytes::{BadList, decode_list, encode_list, lists_have_one_spelling};
 pub use meta::{commit_cell, field_cell, grant_cell};
 pub use meta_laws::{
-    added_are_new, grants_are_cells, grants_have_one_spelling, grants_keep_worlds,
-    indexes_are_added, indexes_are_steps, meta_is_read, numbers_have_one_spelling, rules_are_cells,
-    rules_have_one_spelling, rules_keep_worlds, wider_rules_keep_worlds,
+    grants_are_cells, grants_have_one_spelling, grants_keep_worlds, meta_is_read,
+    numbers_have_one_spelling, rules_are_cells, rules_have_one_spelling, rules_keep_worlds,
 };
 pub use meta_readers::{commit_number, field_rule, grant_names};
 pub use reader_laws::{

@@ -27,7 +27,9 @@ use Rattle.dw_rows.specs.Values.{guarded, text_at, has_only}
 use Rattle.dw_rows.specs.Entries.{field_of}
 use Rattle.dw_rows.specs.JsonRecords.{json_record}
 use Rattle.dw_rows.specs.CsvRecords.{csv_record}
-use Rattle.dw_wire.specs.declared.limits.TheConstants.{MAX_LINE, MAX_CALLER, MAX_NAMES, MAX_RECORDS, MAX_TYPES, MAX_SIZE, MAX_NUMBER, MAX_PAGE}
+use Rattle.dw_base.specs.Callers.{is_caller, is_auth}
+use Rattle.dw_base.specs.declared.limits.TheConstants.{MAX_NAMES}
+use Rattle.dw_wire.specs.declared.limits.TheConstants.{MAX_LINE, MAX_RECORDS, MAX_TYPES, MAX_SIZE, MAX_NUMBER, MAX_PAGE}
 use Rattle.dw_wire.specs.declared.request.Request.{Request}
 use Rattle.dw_wire.specs.declared.request.Request.TheVariants.{Define, Grant, Ingest, Create, Page, Close}
 use Rattle.dw_wire.specs.declared.request.Why.{Why}
@@ -98,20 +100,9 @@ needed_query (Ok query) rest = rest query
 
 -- ---- callers, names and types
 
--- a visible ASCII character
-abbrev pub is_visible : ℕ → Bool
-is_visible b = nat_le 33 b && nat_le b 126
-
--- a caller: 1 to 128 such characters
-abbrev pub is_caller : List ℕ → Bool
-is_caller caller = nat_le 1 (length caller) && nat_le (length caller) MAX_CALLER && list_all is_visible caller
-
+-- the caller that a text names
 abbrev pub caller_of : List ℕ → Option (List ℕ)
 caller_of caller = guarded (is_caller caller) (Some caller)
-
--- the name of an authorisation: 1 to 512 bytes, none of them 0
-abbrev pub is_auth : List ℕ → Bool
-is_auth name = nat_le 1 (length name) && nat_le (length name) 512 && lacks_zero name
 
 -- the names with those of a list of texts
 abbrev pub with_auths : List (List ℕ) → Items → Option (List (List ℕ))

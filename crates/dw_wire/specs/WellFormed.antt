@@ -17,8 +17,9 @@ use Rattle.dw_jexl.specs.Spelling.{Spells}
 use Rattle.dw_key.specs.TypeName.{is_type_name}
 use Rattle.dw_wire.specs.declared.request.Request.{Request}
 use Rattle.dw_wire.specs.declared.request.Request.TheVariants.{Define, Grant, Ingest, Create, Page, Close}
-use Rattle.dw_wire.specs.declared.limits.TheConstants.{MAX_NAMES, MAX_RECORDS, MAX_TYPES, MAX_SIZE, MAX_NUMBER, MAX_PAGE}
-use Rattle.dw_wire.specs.ReadLine.{is_auth, is_caller}
+use Rattle.dw_base.specs.Callers.{is_auth, is_caller}
+use Rattle.dw_base.specs.declared.limits.TheConstants.{MAX_NAMES}
+use Rattle.dw_wire.specs.declared.limits.TheConstants.{MAX_RECORDS, MAX_TYPES, MAX_SIZE, MAX_NUMBER, MAX_PAGE}
 
 -- at most 256 names of authorisations, each by its rule
 abbrev pub are_auths : List (List ℕ) → Bool

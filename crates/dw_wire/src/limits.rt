@@ -3,12 +3,6 @@
 /// The most bytes of a line.
 pub const MAX_LINE: usize = 4_194_304;
 
-/// The most characters of a caller.
-pub const MAX_CALLER: usize = 128;
-
-/// The most names of authorisations in a list, as they are written.
-pub const MAX_NAMES: usize = 256;
-
 /// The most records of an ingest.
 pub const MAX_RECORDS: usize = 10_000;
 

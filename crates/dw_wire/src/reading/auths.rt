@@ -2,20 +2,20 @@ ghost use Rattle.std.specs.Prelude.{◌≡◌, [], Some, IfOk, option_map, optio
 ghost use Rattle.serde_json.specs.Find.{as_str};
 ghost use Rattle.serde_json.specs.View.{view, items_view};
 ghost use Rattle.dw_rows.specs.Values.{guarded};
-ghost use Rattle.dw_wire.specs.ReadLine.{is_auth, with_auths, auths_of, asked_auths as asked};
+ghost use Rattle.dw_base.specs.Callers.{is_auth as names_auth};
+ghost use Rattle.dw_wire.specs.ReadLine.{with_auths, auths_of, asked_auths as asked};
 
 use crate::OutOfMemory;
-use crate::limits::MAX_NAMES;
-use crate::reading::texts::names_auth;
+use dw_base::{MAX_NAMES, is_auth};
 use dw_vis::Auths;
 use serde_json::Value;
 use std::alloc::Global;
 
 fn auth_name(value: &Value) -> Option<&str>
-    ensures { option_map (λ s. s.now) result ≡ option_and_then (λ name. guarded (is_auth name) (Some name)) (as_str (view value.now)) }
+    ensures { option_map (λ s. s.now) result ≡ option_and_then (λ name. guarded (names_auth name) (Some name)) (as_str (view value.now)) }
 {
     let name = value.as_str()?;
-    if !names_auth(name) {
+    if !is_auth(name) {
         return None;
     }
     Some(name)
