@@ -9,6 +9,7 @@ use std::alloc::Global;
 use std::test::Fail;
 
 mod scripts;
+mod stops;
 
 fn words_of(alloc: Global, words: &[&str]) -> Result<Vec<Text>, OutOfMemory> {
     let mut texts = Vec::new(alloc);
