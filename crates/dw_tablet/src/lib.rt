@@ -1,0 +1,26 @@
+//! One shard of the table of cells in memory: the cells at the places that are covered, walks over them
+//! and the documents among them.
+#![tactic(auto)]
+
+mod ahead;
+mod cursor;
+mod document;
+mod laws;
+mod pieces;
+mod position;
+mod run;
+mod said;
+mod span;
+mod steps;
+mod stored;
+mod tablet;
+mod walking;
+
+pub use cursor::{Cursor, CursorTop};
+pub use document::Doc;
+pub use dw_base::OutOfMemory;
+pub use laws::same_between;
+pub use said::{EventSaid, IndexSaid, Said};
+pub use span::Span;
+pub use steps::Steps;
+pub use tablet::Tablet;

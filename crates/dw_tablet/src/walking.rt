@@ -1,0 +1,146 @@
+ghost use Rattle.std.specs.Prelude.{◌≡◌, ◌↔◌, IsTrue, is_some, [], ℕ, List, drop, slice_get, Some, None, IfOk, MatchOption};
+ghost use Rattle.dw_tablet.specs.Positions.{field_start, field_end, value_end, bound_place};
+ghost use Rattle.dw_tablet.specs.Held.{Agrees};
+ghost use Rattle.dw_tablet.specs.Cursors.{gap_before, FirstIs};
+ghost use Rattle.dw_tablet.specs.Values.{value_at, values_of};
+ghost use Rattle.dw_tablet.specs.Walks.{place_at, end_at, left, IfCell, IsCell, shows, gap_shown};
+
+use crate::ahead::Gap;
+use crate::cursor::{Cursor, CursorTop, cursor_at, start_of, value_of};
+use crate::tablet::Tablet;
+use dw_base::{Bytes, OutOfMemory};
+use dw_key::DocKey;
+use dw_nest::Bound;
+use dw_vis::Auths;
+use std::alloc::Global;
+
+impl Tablet {
+    /// A cursor at the first cell of a field.
+    #[tactic(auto, using(crate::proofs::Ranges::field_long))]
+    pub fn cursor<'t>(&'t self, field: &'t str, auths: &'t Auths, snapshot: u64) -> Cursor<'t>
+        ensures tablet { result.tablet.now ≡ self.now }
+        ensures field { result.field.now ≡ field.now }
+        ensures auths { result.auths.now ≡ auths.now }
+        ensures snapshot { result.snapshot ≡ snapshot }
+        ensures place { place_at result ≡ field_start self.now.shard field.now }
+        ensures end { end_at result ≡ field_end self.now.shard field.now }
+    {
+        cursor_at(self, field, auths, snapshot, None, Bound::Start, None, None)
+    }
+}
+
+impl<'t> Cursor<'t> {
+    /// Goes to the first cell of a value and of a document that meets the bound, or else to the first one
+    /// behind it.
+    #[tactic(auto, using(crate::proofs::Ranges::bound_in_field))]
+    pub fn seek_value(&mut self, value: &'t str, bound: &Bound)
+        ensures tablet { self.new.tablet.now ≡ self.old.tablet.now }
+        ensures field { self.new.field.now ≡ self.old.field.now }
+        ensures auths { self.new.auths.now ≡ self.old.auths.now }
+        ensures snapshot { self.new.snapshot ≡ self.old.snapshot }
+        ensures place { place_at self.new ≡ bound_place self.old.tablet.now.shard self.old.field.now value.now bound.now }
+        ensures end { end_at self.new ≡ field_end self.old.tablet.now.shard self.old.field.now }
+    {
+        *self = cursor_at(
+            self.tablet,
+            self.field,
+            self.auths,
+            self.snapshot,
+            Some(value),
+            *bound,
+            None,
+            None,
+        );
+    }
+
+    /// The same, for a walk that ends with the cells of this value.
+    #[tactic(auto, using(crate::proofs::Ranges::bound_in_value))]
+    pub fn seek_equal(&mut self, value: &'t str, bound: &Bound)
+        ensures tablet { self.new.tablet.now ≡ self.old.tablet.now }
+        ensures field { self.new.field.now ≡ self.old.field.now }
+        ensures auths { self.new.auths.now ≡ self.old.auths.now }
+        ensures snapshot { self.new.snapshot ≡ self.old.snapshot }
+        ensures place { place_at self.new ≡ bound_place self.old.tablet.now.shard self.old.field.now value.now bound.now }
+        ensures end { end_at self.new ≡ value_end self.old.tablet.now.shard self.old.field.now value.now }
+    {
+        *self = cursor_at(
+            self.tablet,
+            self.field,
+            self.auths,
+            self.snapshot,
+            Some(value),
+            *bound,
+            None,
+            Some(value),
+        );
+    }
+
+    /// The first value that is known.
+    fn first(&self) -> Option<(&'t str, DocKey)>
+        ensures { MatchOption result (self.now.keys.now ≡ []) (λ v. FirstIs (value_at self.now.field.now self.now.auths.now self.now.snapshot) self.now.keys.now (v.0.now, v.1)) }
+    {
+        let key = self.keys.first()?;
+        value_of(key, self.field, self.auths, self.snapshot)
+    }
+
+    /// What stands at the position, by what all contents of the shard that agree with the tablet have there.
+    pub fn top(&self) -> CursorTop<'t>
+        ensures cell { IfCell result (λ v d. (content : List (List ℕ)) → Agrees self.now.tablet.now content → slice_get (left self.now content) 0 ≡ Some (v, d)) }
+        ensures shows { IsTrue (shows self.now) ↔ IsCell result }
+        ensures missing { (result ≡ CursorTop.Missing) ↔ IsTrue (is_some (gap_shown self.now)) }
+        ensures end { result ≡ CursorTop.End → (content : List (List ℕ)) → Agrees self.now.tablet.now content → left self.now content ≡ [] }
+    {
+        let _spans = self.tablet.spans();
+        if let Some((value, doc)) = self.first() {
+            return CursorTop::Cell { value, doc };
+        }
+        match self.gap {
+            Gap::Nowhere => CursorTop::End,
+            Gap::Here => CursorTop::Missing,
+            Gap::Later { place: _ } => CursorTop::Missing,
+        }
+    }
+
+    /// Goes on after the cell at the top.
+    pub fn next(&mut self)
+        requires { IsTrue (shows self.old) }
+        ensures tablet { self.new.tablet.now ≡ self.old.tablet.now }
+        ensures field { self.new.field.now ≡ self.old.field.now }
+        ensures auths { self.new.auths.now ≡ self.old.auths.now }
+        ensures snapshot { self.new.snapshot ≡ self.old.snapshot }
+        ensures end { end_at self.new ≡ end_at self.old }
+        ensures left { (content : List (List ℕ)) → Agrees self.old.tablet.now content → left self.new content ≡ drop 1 (left self.old content) }
+    {
+        let _spans = self.tablet.spans();
+        if let Some(key) = self.keys.first() {
+            *self = cursor_at(
+                self.tablet,
+                self.field,
+                self.auths,
+                self.snapshot,
+                None,
+                Bound::Start,
+                Some(key.code()),
+                self.only,
+            );
+        }
+    }
+
+    /// The first place at or after the position that is not covered, exactly where the top is missing.
+    pub fn gap(&self, alloc: Global) -> Result<Option<Bytes>, OutOfMemory>
+        ensures { IfOk result (λ o. o ≡ gap_shown self.now) }
+    {
+        if self.keys.first().is_some() {
+            return Ok(None);
+        }
+        match self.gap {
+            Gap::Nowhere => Ok(None),
+            Gap::Later { place } => Ok(Some(Bytes::of(alloc, place)?)),
+            Gap::Here => {
+                let shard = self.tablet.shard().as_str();
+                let position = start_of(shard, self.field, self.value, &self.bound, self.past);
+                Ok(Some(position.to_bytes(alloc)?))
+            }
+        }
+    }
+}
