@@ -122,7 +122,7 @@ fn end_of<'p>(shard: &'p str, field: &'p str, only: Option<&'p str>) -> Position
 }
 
 /// A walk over the cells of a field in the field index, which a reader sees and which are of a batch up to
-/// the snapshot, in the order of their values and documents. Its calls take no memory, but for `gap`.
+/// the snapshot, in the order of their keys. Its calls take no memory, but for `gap`.
 #[derive(Clone, Copy)]
 pub struct Cursor<'t> {
     pub(crate) tablet: &'t Tablet,
