@@ -42,7 +42,7 @@ pair_parts e = (cc, cc)
 abbrev PartBack : List ℕ → Type 0
 PartBack bytes = (p x : List ℕ) → part_from bytes ≡ Some (p, x) → bytes ≡ escaped p ++ 0 ∷ 0 ∷ x
 
-part_back : (bytes : List ℕ) → PartBack bytes
+pub part_back : (bytes : List ℕ) → PartBack bytes
 part_back [] p x h = cc
 part_back (zero ∷ []) p x h = cc
 part_back (zero ∷ zero ∷ bytes) p x h =
@@ -100,7 +100,7 @@ rest_fits bytes p x fit h =
     let all : AreBytes (escaped p ++ 0 ∷ 0 ∷ x) = subst AreBytes h fit in
     (AreBytes-parts (escaped p) (0 ∷ 0 ∷ x) all).1.1.1
 
-then_part : (p x y : List ℕ) → x ≡ y → escaped p ++ 0 ∷ 0 ∷ x ≡ part_code p ++ y
+pub then_part : (p x y : List ℕ) → x ≡ y → escaped p ++ 0 ∷ 0 ∷ x ≡ part_code p ++ y
 then_part p x y e = ap (λ z. escaped p ++ 0 ∷ 0 ∷ z) e ∙ sym (append_assoc (escaped p) (0 ∷ 0 ∷ []) y)
 
 key_back : (bytes : List ℕ) (k : Key) → AreBytes bytes → key_from bytes ≡ Some k → bytes ≡ code k

@@ -15,6 +15,7 @@ pub mod Shards
 pub mod Growing
 pub mod Stepping
 pub mod Decoding
+pub mod Spelled
 pub mod Reading
 pub mod WholeDocuments
 pub mod WholeWorlds

@@ -109,7 +109,7 @@ types_lack : (bs : List ℕ) → list_all is_type_byte bs ≡ true → lacks_zer
 types_lack [] h = refl
 types_lack (b ∷ bs) h = ap (λ x. x && lacks_zero bs) (type_is_not_zero b (left (is_type_byte b) (list_all is_type_byte bs) h)) ∙ types_lack bs (right (is_type_byte b) (list_all is_type_byte bs) h)
 
-type_lacks : (dtype : List ℕ) → is_type_name dtype ≡ true → lacks_zero dtype ≡ true
+pub type_lacks : (dtype : List ℕ) → is_type_name dtype ≡ true → lacks_zero dtype ≡ true
 type_lacks dtype h = types_lack dtype (right _ (list_all is_type_byte dtype) h)
 
 -- ---- the keys of one event

@@ -2,6 +2,7 @@
 //! say, and the tables of a world.
 #![tactic(auto)]
 
+mod doc_keys;
 mod documents;
 mod event_cells;
 mod gathering;
@@ -15,6 +16,7 @@ mod readers;
 mod table_laws;
 mod uid_list;
 
+pub use doc_keys::{doc_key_is_whole, uid_is_whole};
 pub use documents::{cell_of, cells_of, document, document_span, key_of};
 pub use dw_base::OutOfMemory;
 pub use event_cells::{Entry, doc_text, entries, entries_added};

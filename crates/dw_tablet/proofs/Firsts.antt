@@ -146,3 +146,13 @@ head_is (k ∷ ks) key h = ap (λ x. x ∷ ks) (some_is k key h)
   where
     some_is : (x y : List ℕ) → Some x ≡ Some y → x ≡ y
     some_is x y e = cc
+
+-- the first key's value is the first of all
+pub known_first : (f : List ℕ → Option Value) (keys known : List (List ℕ)) (v : Value) → keys ≡ from_first f known → FirstIs f keys v → slice_get (filter_map f known) 0 ≡ Some v
+known_first f [] known v is first = absurd first
+known_first f (k ∷ ks) known v is first =
+    ap (λ vs. slice_get vs 0) (sym (values_first f known) ∙ ap (filter_map f) (sym is)) ∙ at (f k) first
+  where
+    at : (o : Option Value) → o ≡ Some v → slice_get (cons_option o (filter_map f ks)) 0 ≡ Some v
+    at (Some w) e = e
+    at None e = cc

@@ -45,7 +45,7 @@ joined_on [] ys zs = refl
 joined_on (x ∷ xs) ys zs = ap (λ l. x ∷ l) (joined_on xs ys zs)
 
 -- a text of a document key, escaped
-doc_escaped : (dtype digits x : List ℕ) → escaped (zero_joined dtype digits) ++ x ≡ escaped dtype ++ (0 ∷ 255 ∷ (escaped digits ++ x))
+pub doc_escaped : (dtype digits x : List ℕ) → escaped (zero_joined dtype digits) ++ x ≡ escaped dtype ++ (0 ∷ 255 ∷ (escaped digits ++ x))
 doc_escaped dtype digits x = ap (λ l. l ++ x) (escaped-append dtype (0 ∷ digits)) ∙ joined_on (escaped dtype) (escaped (0 ∷ digits)) x
 
 -- the pieces of a field's first place, and what is behind it

@@ -16,3 +16,8 @@ pub mod Known
 pub mod Firsts
 pub mod Ranges
 pub mod Shown
+pub mod DocOrder
+pub mod IndexKeys
+pub mod EqualPlaces
+pub mod LeastDocs
+pub mod Equals

@@ -41,7 +41,7 @@ bound_in_field shard field value (After doc) = at (escaped (doc_text doc) ++ 0 �
         ap (λ p. below p (field_end shard field)) (joined_on (field_start shard field) (escaped value ++ 0 ∷ 255 ∷ []) more)
         ∙ in_field shard field ((escaped value ++ 0 ∷ 255 ∷ []) ++ more)
 
-in_value : (shard field value more : List ℕ) → below (value_start shard field value ++ more) (value_end shard field value) ≡ true
+pub in_value : (shard field value more : List ℕ) → below (value_start shard field value ++ more) (value_end shard field value) ≡ true
 in_value shard field value more =
     let front = field_start shard field in
     let text = escaped value in

@@ -15,7 +15,7 @@ use Rattle.dw_tablet.proofs.Searching.{in_both}
 use Rattle.dw_tablet.proofs.Known.{none_between, parted, known_le, known_covered}
 use Rattle.dw_tablet.proofs.Firsts.{values_first, head_says, first_then, none_then, after_first, first_among}
 
-known_end : (t : Held) (p e : List ℕ) → below e (known_upto t p e) ≡ false
+pub known_end : (t : Held) (p e : List ℕ) → below e (known_upto t p e) ≡ false
 known_end t p e = cond_both (below (gap t.spans p) e) (gap t.spans p) e (λ q. below e q ≡ false) (λ h. back (gap t.spans p) e h) (λ _. not_itself e)
 
 -- keys between two places, cut at one in between

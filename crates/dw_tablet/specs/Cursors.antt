@@ -3,7 +3,7 @@ use Rattle.std.specs.Prelude.{◌≡◌, ℕ, Bool, true, false, cond, List, [],
 use Rattle.dw_tablet.specs.Places.{below, between, covered_upto, gap}
 use Rattle.dw_tablet.specs.Positions.{field_end}
 use Rattle.dw_tablet.specs.Held.{Held}
-use Rattle.dw_tablet.specs.Values.{Value, values_of}
+use Rattle.dw_tablet.specs.Values.{Value}
 use Rattle.dw_tablet.specs.declared.ahead.Gap.{Gap}
 use Rattle.dw_tablet.specs.declared.ahead.Gap.TheVariants.{Here, Later, Nowhere}
 

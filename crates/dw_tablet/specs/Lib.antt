@@ -4,5 +4,6 @@ pub mod Said
 pub mod Values
 pub mod Cursors
 pub mod Walks
+pub mod EqualWalks
 pub mod Documents
 pub mod Held

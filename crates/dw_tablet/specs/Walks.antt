@@ -1,5 +1,5 @@
 -- What a cursor has still to show.
-use Rattle.std.specs.Prelude.{◌≡◌, ℕ, Bool, true, false, not, cond, List, [], ◌∷◌, Option, Some, None}
+use Rattle.std.specs.Prelude.{◌≡◌, ℕ, Bool, true, false, not, cond, List, [], ◌∷◌, Option, Some, None, filter_map}
 use Rattle.std.specs.Option.{option_map}
 use Rattle.dw_key.specs.declared.doc_key.DocKey.{DocKey}
 use Rattle.dw_tablet.specs.declared.cursor.Cursor.{Cursor}
@@ -7,20 +7,24 @@ use Rattle.dw_tablet.specs.declared.cursor.CursorTop.{CursorTop}
 use Rattle.dw_tablet.specs.declared.cursor.CursorTop.TheVariants.{Cell, End, Missing}
 use Rattle.dw_tablet.specs.Places.{between}
 use Rattle.dw_tablet.specs.Positions.{cursor_place, cursor_end}
-use Rattle.dw_tablet.specs.Cursors.{gap_before}
-use Rattle.dw_tablet.specs.Values.{Value, values_of}
+use Rattle.dw_tablet.specs.Cursors.{gap_before, known_keys}
+use Rattle.dw_tablet.specs.Values.{Value, shown_by}
 
 -- where it stands
 abbrev pub place_at : Cursor → List ℕ
-place_at c = cursor_place c.tablet.now.shard c.field.now (option_map (λ v. v.now) c.value) c.bound (option_map (λ k. k.now) c.past)
+place_at c = cursor_place c.tablet.now.shard c.asked.field.now (option_map (λ v. v.now) c.value) c.bound (option_map (λ k. k.now) c.past)
 
 -- and where its walk ends
 abbrev pub end_at : Cursor → List ℕ
-end_at c = cursor_end c.tablet.now.shard c.field.now (option_map (λ v. v.now) c.only)
+end_at c = cursor_end c.tablet.now.shard c.asked.field.now (option_map (λ v. v.now) c.asked.only)
 
 -- of a content of the shard: the values from there on and before the end, in their order
 abbrev pub left : Cursor → List (List ℕ) → List Value
-left c content = values_of c.field.now c.auths.now c.snapshot (between (place_at c) (end_at c) content)
+left c content = filter_map (shown_by c.asked) (between (place_at c) (end_at c) content)
+
+-- the values that are known there, up to the first place that is not covered
+abbrev pub known : Cursor → List Value
+known c = filter_map (shown_by c.asked) (known_keys c.tablet.now (place_at c) (end_at c))
 
 -- a fact of the cell at the top, if there is one
 abbrev pub IfCell : CursorTop → (List ℕ → DocKey → Type 0) → Type 0

@@ -6,18 +6,15 @@ ghost use Rattle.dw_tablet.specs.Places.{below};
 ghost use Rattle.dw_tablet.specs.Positions.{place_of, field_start, field_end, value_end, bound_place, cursor_place, cursor_end};
 ghost use Rattle.dw_tablet.specs.Held.{Agrees};
 ghost use Rattle.dw_tablet.specs.Cursors.{known_keys, gap_before, gap_place, from_first};
-ghost use Rattle.dw_tablet.specs.Values.{value_at, values_of};
+ghost use Rattle.dw_tablet.specs.Values.{shown_by};
 
 use crate::ahead::Gap;
+use crate::asked::Asked;
 use crate::position::{DocSpot, Position};
-use crate::said::Said;
 use crate::stored::Stored;
 use crate::tablet::Tablet;
-use dw_base::{Bytes, OutOfMemory};
 use dw_key::DocKey;
 use dw_nest::Bound;
-use dw_vis::Auths;
-use std::alloc::Global;
 
 /// What stands at the position of a cursor.
 #[derive(Clone, Copy, Debug)]
@@ -30,41 +27,18 @@ pub enum CursorTop<'t> {
     Missing,
 }
 
-/// The value that a key says of the field, where a reader sees it.
-pub(crate) fn value_of<'t>(
-    key: &'t Stored,
-    field: &str,
-    auths: &Auths,
-    snapshot: u64,
-) -> Option<(&'t str, DocKey)>
-    ensures { MatchOption result (value_at field.now auths.now snapshot key.now ≡ None) (λ v. value_at field.now auths.now snapshot key.now ≡ Some (v.0.now, v.1)) }
-{
-    match key.said() {
-        Said::OfIndex(said) => {
-            if said.field.as_str() == field && said.batch <= snapshot && said.vis.sees(auths) {
-                Some((said.value.as_str(), said.doc))
-            } else {
-                None
-            }
-        }
-        Said::OfEvent(_) => None,
-        Said::Nothing => None,
-    }
-}
-
 /// Where the first value stands among some keys.
-fn first_value(keys: &[Stored], field: &str, auths: &Auths, snapshot: u64) -> Option<usize>
-    ensures { result ≡ first_place (λ k. is_some (value_at field.now auths.now snapshot k)) keys.now }
+fn first_value(keys: &[Stored], asked: &Asked<'_>) -> Option<usize>
+    ensures { result ≡ first_place (λ k. is_some (shown_by asked.now k)) keys.now }
 {
-    keys.iter()
-        .position(|key| value_of(key, field, auths, snapshot).is_some())
+    keys.iter().position(|key| asked.value_of(key).is_some())
 }
 
 /// The keys from the first that says a value on.
-fn from_first<'t>(keys: &'t [Stored], field: &str, auths: &Auths, snapshot: u64) -> &'t [Stored]
-    ensures { result.now ≡ from_first (value_at field.now auths.now snapshot) keys.now }
+fn from_first<'t>(keys: &'t [Stored], asked: &Asked<'_>) -> &'t [Stored]
+    ensures { result.now ≡ from_first (shown_by asked.now) keys.now }
 {
-    match first_value(keys, field, auths, snapshot) {
+    match first_value(keys, asked) {
         Some(at) => &keys[at..],
         None => &[],
     }
@@ -126,53 +100,45 @@ fn end_of<'p>(shard: &'p str, field: &'p str, only: Option<&'p str>) -> Position
 #[derive(Clone, Copy)]
 pub struct Cursor<'t> {
     pub(crate) tablet: &'t Tablet,
-    pub(crate) field: &'t str,
-    pub(crate) auths: &'t Auths,
-    pub(crate) snapshot: u64,
+    pub(crate) asked: Asked<'t>,
     pub(crate) value: Option<&'t str>,
     pub(crate) bound: Bound,
     pub(crate) past: Option<&'t [u8]>,
-    pub(crate) only: Option<&'t str>,
     pub(crate) keys: &'t [Stored],
     pub(crate) gap: Gap<'t>,
-    ghost within: { below (cursor_place tablet.now.shard field.now (option_map (λ v. v.now) value) bound (option_map (λ k. k.now) past)) (cursor_end tablet.now.shard field.now (option_map (λ v. v.now) only)) ≡ true },
-    ghost known: { keys.now ≡ from_first (value_at field.now auths.now snapshot) (known_keys tablet.now (cursor_place tablet.now.shard field.now (option_map (λ v. v.now) value) bound (option_map (λ k. k.now) past)) (cursor_end tablet.now.shard field.now (option_map (λ v. v.now) only))) },
-    ghost missing: { gap_place (cursor_place tablet.now.shard field.now (option_map (λ v. v.now) value) bound (option_map (λ k. k.now) past)) gap ≡ gap_before tablet.now (cursor_place tablet.now.shard field.now (option_map (λ v. v.now) value) bound (option_map (λ k. k.now) past)) (cursor_end tablet.now.shard field.now (option_map (λ v. v.now) only)) },
+    ghost within: { below (cursor_place tablet.now.shard asked.field.now (option_map (λ v. v.now) value) bound (option_map (λ k. k.now) past)) (cursor_end tablet.now.shard asked.field.now (option_map (λ v. v.now) asked.only)) ≡ true },
+    ghost known: { keys.now ≡ from_first (shown_by asked) (known_keys tablet.now (cursor_place tablet.now.shard asked.field.now (option_map (λ v. v.now) value) bound (option_map (λ k. k.now) past)) (cursor_end tablet.now.shard asked.field.now (option_map (λ v. v.now) asked.only))) },
+    ghost missing: { gap_place (cursor_place tablet.now.shard asked.field.now (option_map (λ v. v.now) value) bound (option_map (λ k. k.now) past)) gap ≡ gap_before tablet.now (cursor_place tablet.now.shard asked.field.now (option_map (λ v. v.now) value) bound (option_map (λ k. k.now) past)) (cursor_end tablet.now.shard asked.field.now (option_map (λ v. v.now) asked.only)) },
 }
 
 /// A cursor that was sent to a value and a bound or past a key.
 pub(crate) fn cursor_at<'t>(
     tablet: &'t Tablet,
-    field: &'t str,
-    auths: &'t Auths,
-    snapshot: u64,
+    asked: Asked<'t>,
     value: Option<&'t str>,
     bound: Bound,
     past: Option<&'t [u8]>,
-    only: Option<&'t str>,
 ) -> Cursor<'t>
-    requires { below (cursor_place tablet.now.shard field.now (option_map (λ v. v.now) value) bound (option_map (λ k. k.now) past)) (cursor_end tablet.now.shard field.now (option_map (λ v. v.now) only)) ≡ true }
+    requires { below (cursor_place tablet.now.shard asked.field.now (option_map (λ v. v.now) value) bound (option_map (λ k. k.now) past)) (cursor_end tablet.now.shard asked.field.now (option_map (λ v. v.now) asked.only)) ≡ true }
     ensures tablet { result.tablet.now ≡ tablet.now }
-    ensures field { result.field.now ≡ field.now }
-    ensures auths { result.auths.now ≡ auths.now }
-    ensures snapshot { result.snapshot ≡ snapshot }
-    ensures place { cursor_place result.tablet.now.shard result.field.now (option_map (λ v. v.now) result.value) result.bound (option_map (λ k. k.now) result.past) ≡ cursor_place tablet.now.shard field.now (option_map (λ v. v.now) value.entry) bound (option_map (λ k. k.now) past.entry) }
-    ensures end { option_map (λ v. v.now) result.only ≡ option_map (λ v. v.now) only.entry }
+    ensures asked { shown_by result.asked ≡ shown_by asked.entry }
+    ensures field { result.asked.field.now ≡ asked.entry.field.now }
+    ensures auths { result.asked.auths.now ≡ asked.entry.auths.now }
+    ensures snapshot { result.asked.snapshot ≡ asked.entry.snapshot }
+    ensures place { cursor_place result.tablet.now.shard result.asked.field.now (option_map (λ v. v.now) result.value) result.bound (option_map (λ k. k.now) result.past) ≡ cursor_place tablet.now.shard asked.entry.field.now (option_map (λ v. v.now) value.entry) bound (option_map (λ k. k.now) past.entry) }
+    ensures end { option_map (λ v. v.now) result.asked.only ≡ option_map (λ v. v.now) asked.entry.only }
 {
     let shard = tablet.shard().as_str();
-    let from = start_of(shard, field, value, &bound, past);
-    let end = end_of(shard, field, only);
+    let from = start_of(shard, asked.field, value, &bound, past);
+    let end = end_of(shard, asked.field, asked.only);
     let ahead = tablet.ahead(&from, &end);
     Cursor {
         tablet,
-        field,
-        auths,
-        snapshot,
+        asked,
         value,
         bound,
         past,
-        only,
-        keys: from_first(ahead.keys, field, auths, snapshot),
+        keys: from_first(ahead.keys, &asked),
         gap: ahead.gap,
     }
 }

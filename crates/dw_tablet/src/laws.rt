@@ -1,9 +1,16 @@
 //! What holds of tablets. The functions do nothing: their contracts are laws.
 
 ghost use Rattle.dw_tablet.specs.Held.{SameBetween};
+ghost use Rattle.dw_tablet.specs.EqualWalks.{EqualWalksAreOrdered};
 
 /// Where all places from one on and before another are covered, a tablet and each content that agrees
 /// with it have the same keys there.
 pub fn same_between()
     ensures { SameBetween }
+{}
+
+/// A walk over the cells of one value shows its documents in their order: first the first one that meets
+/// the bound.
+pub fn equal_walks_are_ordered()
+    ensures { EqualWalksAreOrdered }
 {}

@@ -3,6 +3,7 @@
 #![tactic(auto)]
 
 mod ahead;
+mod asked;
 mod cursor;
 mod document;
 mod laws;
@@ -19,7 +20,7 @@ mod walking;
 pub use cursor::{Cursor, CursorTop};
 pub use document::Doc;
 pub use dw_base::OutOfMemory;
-pub use laws::same_between;
+pub use laws::{equal_walks_are_ordered, same_between};
 pub use said::{EventSaid, IndexSaid, Said};
 pub use span::Span;
 pub use steps::Steps;

@@ -1,12 +1,12 @@
 use Rattle.std.proofs.Common.{sym, ◌∙◌, rules}
-use Rattle.dw_tablet.specs.Values.{value_at}
+use Rattle.dw_tablet.specs.Values.{shown_by}
 use Rattle.dw_tablet.proofs.Firsts.{first_says, none_stands}
 use Rattle.dw_tablet.proofs.Searching.{rest_of}
 use Rattle.dw_tablet.proofs.cursor.from_first.Goals as goal
 
 pub returns-in-Some : goal.returns-in-Some
 returns-in-Some c =
-    rest_of c.in-Some.at c.args.keys.now ∙ first_says (value_at c.args.field.now c.args.auths.now c.args.snapshot) c.args.keys.now c.in-Some.at (search rules)
+    rest_of c.in-Some.at c.args.keys.now ∙ first_says (shown_by c.args.asked.now) c.args.keys.now c.in-Some.at (search rules)
 
 pub returns-in-None : goal.returns-in-None
-returns-in-None c = none_stands (value_at c.args.field.now c.args.auths.now c.args.snapshot) c.args.keys.now (search rules)
+returns-in-None c = none_stands (shown_by c.args.asked.now) c.args.keys.now (search rules)
