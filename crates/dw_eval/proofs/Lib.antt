@@ -5,3 +5,4 @@ pub mod Lawful
 pub mod Forms
 pub mod NamedFields
 pub mod Again
+pub mod Begun

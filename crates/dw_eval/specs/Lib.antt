@@ -1,6 +1,7 @@
 pub mod Bound
 pub mod Values
 pub mod Leaves
+pub mod Meeting
 pub mod Sat
 pub mod Kleene
 pub mod Laws

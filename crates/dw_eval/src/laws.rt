@@ -1,5 +1,6 @@
 //! What holds of all bound queries. The functions do nothing: their contracts are laws.
 
+ghost use Rattle.dw_eval.specs.Meeting.{FormsBeginSo};
 ghost use Rattle.dw_eval.specs.Laws.{DeMorgan, FormsAreOfValues, IndexesKnow, HoldsIsStanding, NamedFieldsDecide, ReadingsAreBoundAlike};
 
 /// A leaf on the normal forms of a view is met exactly where some value of its field has a normal form that
@@ -32,4 +33,9 @@ pub fn named_fields_decide()
 /// and depth.
 pub fn readings_are_bound_alike()
     ensures { ReadingsAreBoundAlike }
+{}
+
+/// A normal form that meets a leaf begins as `front_of` says.
+pub fn forms_begin_so()
+    ensures { FormsBeginSo }
 {}

@@ -7,30 +7,30 @@ use crate::nview::NView;
 use dw_base::Text;
 use std::cmp::Ordering;
 
-fn is_below(form: &Text, high: &Text, edge: bool) -> bool
+pub(crate) fn is_below(form: &str, high: &Text, edge: bool) -> bool
     ensures { result ≡ is_below form.now high.now edge }
 {
-    match form.cmp(high) {
+    match form.cmp(high.as_str()) {
         Ordering::Less => true,
         Ordering::Equal => edge,
         Ordering::Greater => false,
     }
 }
 
-fn is_above(form: &Text, low: &Text, edge: bool) -> bool
+pub(crate) fn is_above(form: &str, low: &Text, edge: bool) -> bool
     ensures { result ≡ is_above form.now low.now edge }
 {
-    match form.cmp(low) {
+    match form.cmp(low.as_str()) {
         Ordering::Less => false,
         Ordering::Equal => edge,
         Ordering::Greater => true,
     }
 }
 
-fn holds(form: &Text, text: &Text) -> bool
+pub(crate) fn holds(form: &str, text: &Text) -> bool
     ensures { result ≡ holds form.now text.now }
 {
-    form.as_str().contains(text.as_str())
+    form.contains(text.as_str())
 }
 
 pub fn some_equal(view: &NView, field: &Text, value: &Text) -> bool
@@ -44,7 +44,7 @@ pub fn some_below(view: &NView, field: &Text, value: &Text, edge: bool) -> bool
 {
     view.values(field)
         .iter()
-        .any(|p| is_below(&p.form, value, edge))
+        .any(|p| is_below(p.form.as_str(), value, edge))
 }
 
 pub fn some_above(view: &NView, field: &Text, value: &Text, edge: bool) -> bool
@@ -52,7 +52,7 @@ pub fn some_above(view: &NView, field: &Text, value: &Text, edge: bool) -> bool
 {
     view.values(field)
         .iter()
-        .any(|p| is_above(&p.form, value, edge))
+        .any(|p| is_above(p.form.as_str(), value, edge))
 }
 
 /// Whether one value meets both ends.
@@ -66,8 +66,8 @@ pub fn some_between(
 ) -> bool
     ensures { result ≡ some_between view.now field.now low.now low_edge high.now high_edge }
 {
-    view.values(field).iter().any(|p| is_above(&p.form, low, low_edge)
-        && is_below(&p.form, high, high_edge))
+    view.values(field).iter().any(|p| is_above(p.form.as_str(), low, low_edge)
+        && is_below(p.form.as_str(), high, high_edge))
 }
 
 pub fn some_starts(view: &NView, field: &Text, text: &Text) -> bool
@@ -93,5 +93,5 @@ pub fn some_ends(view: &NView, field: &Text, text: &Text) -> bool
 pub fn some_holds(view: &NView, field: &Text, text: &Text) -> bool
     ensures { result ≡ some_holds view.now field.now text.now }
 {
-    view.values(field).iter().any(|p| holds(&p.form, text))
+    view.values(field).iter().any(|p| holds(p.form.as_str(), text))
 }

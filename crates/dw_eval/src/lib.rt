@@ -5,6 +5,7 @@ mod binding;
 mod knowing;
 mod laws;
 mod leaf;
+mod meeting;
 mod naming;
 mod nquery;
 mod nview;
@@ -16,9 +17,10 @@ pub use dw_base::OutOfMemory;
 pub use dw_nest::Truth;
 pub use knowing::kleene;
 pub use laws::{
-    forms_are_of_values, holding_is_standing, indexes_know, named_fields_decide,
+    forms_are_of_values, forms_begin_so, holding_is_standing, indexes_know, named_fields_decide,
     negation_goes_inward, readings_are_bound_alike,
 };
+pub use meeting::{field_of, front_of, meets};
 pub use naming::names;
 pub use nquery::NQuery;
 pub use nview::{Formed, NView};

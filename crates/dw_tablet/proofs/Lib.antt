@@ -21,3 +21,4 @@ pub mod IndexKeys
 pub mod EqualPlaces
 pub mod LeastDocs
 pub mod Equals
+pub mod Begun

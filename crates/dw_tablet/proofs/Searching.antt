@@ -39,7 +39,7 @@ left f k ks h c = record {
   back = ap (λ l. k ∷ l) c.back ∙ sym (ap (λ b. cond (not b) (k ∷ filter (λ x. not (f x)) ks) (filter (λ x. not (f x)) ks)) h);
 }
 
-cut : (f : List ℕ → Bool) (keys : List (List ℕ)) (i : ℕ) → i ≤ length keys
+pub cut : (f : List ℕ → Bool) (keys : List (List ℕ)) (i : ℕ) → i ≤ length keys
     → ((j : ℕ) (d : List ℕ) → j < i → f (get_or keys j d) ≡ true) → ((j : ℕ) (d : List ℕ) → i ≤ j → j < length keys → f (get_or keys j d) ≡ false) → IsCut f keys i
 cut f [] zero h p q = record { front = refl; back = refl }
 cut f [] (suc i) h p q = absurd (omega (arith, h))

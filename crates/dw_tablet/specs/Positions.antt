@@ -9,7 +9,7 @@ use Rattle.dw_tablet.specs.declared.pieces.Piece.{Piece}
 use Rattle.dw_tablet.specs.declared.pieces.Piece.TheVariants.{Escaped, Plain}
 use Rattle.dw_tablet.specs.declared.position.DocSpot.{DocSpot}
 use Rattle.dw_tablet.specs.declared.position.Position.{Position}
-use Rattle.dw_tablet.specs.declared.position.Position.TheVariants.{At, Past, FieldStart, FieldEnd, ValueStart, ValueEnd, Entry, DocumentStart, DocumentEnd}
+use Rattle.dw_tablet.specs.declared.position.Position.TheVariants.{At, Past, FieldStart, FieldEnd, TextStart, ValueStart, ValueEnd, Entry, DocumentStart, DocumentEnd}
 
 -- the bytes of a piece: a text with each byte 0 of it escaped, or bytes as they are
 abbrev pub piece_bytes : Piece → List ℕ
@@ -74,6 +74,7 @@ place_of (At place) = place.now
 place_of (Past key) = key.now ++ 0 ∷ []
 place_of (FieldStart shard field) = field_start shard.now field.now
 place_of (FieldEnd shard field) = field_end shard.now field.now
+place_of (TextStart shard field text) = field_start shard.now field.now ++ escaped text.now
 place_of (ValueStart shard field value) = value_start shard.now field.now value.now
 place_of (ValueEnd shard field value) = value_end shard.now field.now value.now
 place_of (Entry shard field value spot past) = entry_place shard.now field.now value.now (spot_text spot) (last_byte past)

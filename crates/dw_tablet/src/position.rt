@@ -61,6 +61,12 @@ pub(crate) enum Position<'t> {
         shard: &'t str,
         field: &'t str,
     },
+    /// What the cells of the values of a field begin with that begin with a text.
+    TextStart {
+        shard: &'t str,
+        field: &'t str,
+        text: &'t str,
+    },
     /// The first place of an equality on a field.
     ValueStart {
         shard: &'t str,
@@ -117,6 +123,10 @@ impl Position<'_> {
             Position::Past { key } => compare(&plain(key, &[0]), place),
             Position::FieldStart { shard, field } => compare(&of_field(shard, field, ENDED), place),
             Position::FieldEnd { shard, field } => compare(&of_field(shard, field, PASSED), place),
+            Position::TextStart { shard, field, text } => compare(
+                &of_value(shard, field, text, &[]),
+                place,
+            ),
             Position::ValueStart {
                 shard,
                 field,
@@ -170,6 +180,10 @@ impl Position<'_> {
             Position::Past { key } => joined(alloc, &plain(key, &[0])),
             Position::FieldStart { shard, field } => joined(alloc, &of_field(shard, field, ENDED)),
             Position::FieldEnd { shard, field } => joined(alloc, &of_field(shard, field, PASSED)),
+            Position::TextStart { shard, field, text } => joined(
+                alloc,
+                &of_value(shard, field, text, &[]),
+            ),
             Position::ValueStart {
                 shard,
                 field,

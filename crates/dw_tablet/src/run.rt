@@ -1,6 +1,7 @@
 ghost use Rattle.std.specs.Prelude.{true, ◌≡◌, ◌≤◌, ◌++◌, length, ◌∷◌, [], not, filter, take, drop, IfOk, OnOk, OnErr, map as list_map};
 ghost use Rattle.dw_tablet.specs.Positions.{place_of};
 ghost use Rattle.dw_tablet.specs.Places.{below, Ascends, between, onward, with_run, run_end};
+ghost use Rattle.dw_tablet.specs.Fronts.{begins, with_front};
 
 use crate::position::Position;
 use crate::stored::{KeyReader, Stored};
@@ -71,6 +72,17 @@ pub(crate) fn keys_between<'t>(
     let front = &keys[..high];
     let low = count_below(front, from);
     &front[low..]
+}
+
+/// Those of some ascending keys that begin with some bytes.
+pub(crate) fn keys_with_front<'t>(keys: &'t [Stored], front: &[u8]) -> &'t [Stored]
+    requires { Ascends keys.now }
+    ensures { result.now ≡ with_front front.now keys.now }
+{
+    let low = count_below(keys, &Position::At { place: front });
+    let rest = &keys[low..];
+    let count = rest.partition_point(|key| key.code().starts_with(front));
+    &rest[..count]
 }
 
 /// Puts the keys of a run in place of those from `from` on and before `upto`. After an error all keys are as

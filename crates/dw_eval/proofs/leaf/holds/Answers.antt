@@ -4,5 +4,5 @@ use Rattle.dw_eval.proofs.leaf.holds.Goals as goal
 
 pub returns : goal.returns
 returns c =
-    rw (← c.as_str.ensures.same, ← c.as_str-2.ensures.same)
-    (is_holds c.contains.result c.as_str.result.now c.as_str-2.result.now (contains_text c.contains.result c.as_str-2.result.now c.as_str.result.now c.contains.ensures.cases))
+    rw (← c.as_str.ensures.same)
+    (is_holds c.contains.result c.args.form.now c.as_str.result.now (contains_text c.contains.result c.as_str.result.now c.args.form.now c.contains.ensures.cases))
