@@ -1,5 +1,5 @@
 -- An iterator over the cells of one value.
-use Rattle.std.proofs.Common.{◌≡◌, ℕ, Bool, true, false, ◌&&◌, List, [], ◌∷◌, refl, sym, ap, subst, ◌∙◌}
+use Rattle.std.proofs.Common.{◌≡◌, ◌↔◌, ℕ, Bool, true, false, ◌&&◌, List, [], ◌∷◌, refl, sym, ap, subst, ◌∙◌}
 use Rattle.std.specs.Prelude.{filter_map, slice_get, Option, Some, None, nat_eq, if◌then◌else◌}
 use Rattle.std.specs.Cmp.Lexicographic.{pointwise}
 use Rattle.dw_key.specs.declared.doc_key.DocKey.{DocKey}
@@ -49,3 +49,14 @@ module _ (t : Held) (field : List ℕ) (names : List (List ℕ)) (snapshot : ℕ
 
   pub known_at : (v : Value) → slice_get (filter_map f (known_keys t p e)) 0 ≡ Some v → slice_get (walked_known t field names snapshot value types bound) 0 ≡ Some v
   known_at v h = ap (λ vs. slice_get vs 0) (sym known_is) ∙ h
+
+-- ---- what it was made from
+
+abbrev pub Made : Type 0
+Made = Held × (List ℕ × (List ℕ × (Types × (List (List ℕ) × ℕ))))
+
+abbrev pub MadeStands : Made → List DocKey → Type 0
+MadeStands m all = StandsFor m.0 m.1.0 (λ form. pointwise nat_eq form m.1.1.0) m.1.1.1.1.0 m.1.1.1.1.1 m.1.1.1.0 all
+
+pub stands_alike : (a b : Made) → a ≡ b → (all : List DocKey) → MadeStands a all ↔ MadeStands b all
+stands_alike a b e all = ((λ s. subst (λ m. MadeStands m all) e s), λ s. subst (λ m. MadeStands m all) (sym e) s)

@@ -1,1 +1,4 @@
 pub mod EqualTops
+pub mod SetTops
+pub mod SetDocs
+pub mod Parts

@@ -1,5 +1,6 @@
 -- The documents that a leaf stands for.
 use Rattle.std.specs.Prelude.{◌≡◌, ℕ, Bool, true, List, Option, Some, None, if◌then◌else◌}
+use Rattle.std.specs.Option.{option_map}
 use Rattle.dw_key.specs.declared.doc_key.DocKey.{DocKey}
 use Rattle.dw_event.specs.declared.types.Types.{Types}
 use Rattle.dw_tablet.specs.Held.{Held, Agrees}
@@ -9,6 +10,10 @@ use Rattle.dw_tablet.specs.Values.{Value, shown_at, AreDocs}
 abbrev pub passed_if : (List ℕ → Bool) → Option Value → Option Value
 passed_if test None = None
 passed_if test (Some v) = if test v.0 then Some v else None
+
+-- the document of a value, where it passes the test
+abbrev pub doc_where : (List ℕ → Bool) → (List ℕ → Option Value) → List ℕ → Option DocKey
+doc_where test f key = option_map (λ v. v.1) (passed_if test (f key))
 
 -- what a key says of the field, where a reader sees it, it is of a batch up to the snapshot, its document is of a type that is asked for, and its
 -- normal form passes the test

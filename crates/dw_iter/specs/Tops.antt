@@ -1,5 +1,6 @@
 -- What an iterator over a cursor shows.
 use Rattle.std.specs.Prelude.{◌≡◌, ℕ, Bool, cond, List, slice_get, Option, Some, None}
+use Rattle.dw_key.specs.declared.doc_key.DocKey.{DocKey}
 use Rattle.dw_nest.specs.declared.bound.Top.{Top}
 use Rattle.dw_nest.specs.declared.bound.Top.TheVariants.{Key, End, Missing}
 use Rattle.dw_tablet.specs.declared.cursor.Cursor.{Cursor}
@@ -19,3 +20,8 @@ gap_top None = End
 -- the document of the first value that is known, or whether a place is missing
 abbrev pub top_of : Cursor → Top
 top_of c = cond (shows c) (doc_top (slice_get (known c) 0)) (gap_top (gap_shown c))
+
+-- the first key of a set that is left
+abbrev pub set_top : Option DocKey → Top
+set_top (Some key) = Key key
+set_top None = End

@@ -20,14 +20,18 @@ use std::alloc::Global;
 /// no memory.
 #[derive(Clone, Copy)]
 pub struct EqualLeaf<'t> {
-    cursor: Cursor<'t>,
+    tablet: &'t Tablet,
+    field: &'t str,
     value: &'t str,
     types: &'t Types,
+    auths: &'t Auths,
+    snapshot: u64,
     bound: Bound,
-    ghost asked: { shown_by cursor.asked ≡ shown_at cursor.asked.field.now cursor.asked.auths.now cursor.asked.snapshot (Some value.now) (Some types.now) },
-    ghost place: { place_at cursor ≡ bound_place cursor.tablet.now.shard cursor.asked.field.now value.now bound },
-    ghost end: { end_at cursor ≡ value_end cursor.tablet.now.shard cursor.asked.field.now value.now },
-    ghost fits: { BoundFits bound },
+    cursor: Cursor<'t>,
+    ghost tablet_is: { cursor.tablet.now ≡ tablet.now },
+    ghost asked: { shown_by cursor.asked ≡ shown_at field.now auths.now snapshot (Some value.now) (Some types.now) },
+    ghost place: { place_at cursor ≡ bound_place tablet.now.shard field.now value.now bound },
+    ghost end: { end_at cursor ≡ value_end tablet.now.shard field.now value.now },
 }
 
 /// The document key of a bound is one by its types.
@@ -43,27 +47,31 @@ fn bound_is_whole(bound: &Bound)
 
 /// One that stands at a bound.
 fn at_bound<'t>(
-    cursor: Cursor<'t>,
+    tablet: &'t Tablet,
+    field: &'t str,
     value: &'t str,
     types: &'t Types,
+    auths: &'t Auths,
+    snapshot: u64,
     bound: &Bound,
 ) -> EqualLeaf<'t>
-    ensures tablet { result.cursor.tablet.now ≡ cursor.entry.tablet.now }
-    ensures field { result.cursor.asked.field.now ≡ cursor.entry.asked.field.now }
-    ensures auths { result.cursor.asked.auths.now ≡ cursor.entry.asked.auths.now }
-    ensures snapshot { result.cursor.asked.snapshot ≡ cursor.entry.asked.snapshot }
+    ensures tablet { result.tablet.now ≡ tablet.now }
+    ensures field { result.field.now ≡ field.now }
     ensures value { result.value.now ≡ value.now }
     ensures types { result.types.now ≡ types.now }
+    ensures auths { result.auths.now ≡ auths.now }
+    ensures snapshot { result.snapshot ≡ snapshot }
     ensures bound { result.bound ≡ bound.now }
 {
-    let mut cursor = cursor;
-    cursor.seek_equal(value, types, bound);
-    bound_is_whole(bound);
     EqualLeaf {
-        cursor,
+        tablet,
+        field,
         value,
         types,
+        auths,
+        snapshot,
         bound: *bound,
+        cursor: tablet.equal_cursor(field, value, types, auths, snapshot, bound),
     }
 }
 
@@ -77,15 +85,15 @@ impl<'t> EqualLeaf<'t> {
         auths: &'t Auths,
         snapshot: u64,
     ) -> EqualLeaf<'t>
-        ensures tablet { result.cursor.tablet.now ≡ tablet.now }
-        ensures field { result.cursor.asked.field.now ≡ field.now }
-        ensures auths { result.cursor.asked.auths.now ≡ auths.now }
-        ensures snapshot { result.cursor.asked.snapshot ≡ snapshot }
+        ensures tablet { result.tablet.now ≡ tablet.now }
+        ensures field { result.field.now ≡ field.now }
         ensures value { result.value.now ≡ value.now }
         ensures types { result.types.now ≡ types.now }
+        ensures auths { result.auths.now ≡ auths.now }
+        ensures snapshot { result.snapshot ≡ snapshot }
         ensures bound { result.bound ≡ Bound.Start }
     {
-        at_bound(tablet.cursor(field, auths, snapshot), value, types, &Bound::Start)
+        at_bound(tablet, field, value, types, auths, snapshot, &Bound::Start)
     }
 
     /// The first place that is not covered, at or after the position, exactly where the top is missing.
@@ -104,20 +112,29 @@ impl DocIter for EqualLeaf<'_> {
 
     ghost stuck = { λ s. is_some (gap_shown s.cursor) };
 
-    ghost stands = { λ s. StandsFor s.cursor.tablet.now s.cursor.asked.field.now (λ form. pointwise nat_eq form s.value.now) s.cursor.asked.auths.now s.cursor.asked.snapshot s.types.now };
+    ghost stands = { λ s. StandsFor s.tablet.now s.field.now (λ form. pointwise nat_eq form s.value.now) s.auths.now s.snapshot s.types.now };
 
     ghost shown = { λ s. top_of s.cursor };
 
-    ghost keys = { λ s. docs_of (shown_by s.cursor.asked) s.cursor.tablet.now.keys };
+    ghost keys = { λ s. docs_of (shown_at s.field.now s.auths.now s.snapshot (Some s.value.now) (Some s.types.now)) s.tablet.now.keys };
 
-    ghost made = { λ s. s.cursor.asked.field.now ∷ s.value.now ∷ [] };
+    ghost made = { λ s. s.field.now ∷ s.value.now ∷ [] };
 
     fn seek(&mut self, bound: &Bound) {
-        *self = at_bound(self.cursor, self.value, self.types, bound);
+        *self = at_bound(
+            self.tablet,
+            self.field,
+            self.value,
+            self.types,
+            self.auths,
+            self.snapshot,
+            bound,
+        );
     }
 
     fn top(&self) -> Top {
         equal_walks_are_ordered();
+        bound_is_whole(&self.bound);
         match self.cursor.top() {
             CursorTop::Cell { value: _, doc } => Top::Key(doc),
             CursorTop::End => Top::End,
@@ -126,8 +143,16 @@ impl DocIter for EqualLeaf<'_> {
     }
 
     fn next(&mut self) {
-        if let Top::Key(key) = self.top() {
-            *self = at_bound(self.cursor, self.value, self.types, &Bound::After(key));
+        if let CursorTop::Cell { value: _, doc } = self.cursor.top() {
+            *self = at_bound(
+                self.tablet,
+                self.field,
+                self.value,
+                self.types,
+                self.auths,
+                self.snapshot,
+                &Bound::After(doc),
+            );
         }
     }
 }

@@ -2,6 +2,11 @@
 #![tactic(auto)]
 
 mod equal;
+mod leaf;
+mod set;
 
 pub use dw_base::OutOfMemory;
+pub use dw_tablet::LeafError;
 pub use equal::EqualLeaf;
+pub use leaf::Leaf;
+pub use set::SetLeaf;

@@ -6,6 +6,7 @@ ghost use Rattle.std.proofs.Common.{rules};
 ghost use Rattle.dw_key.specs.DocKeys.{doc_key_cmp};
 
 use crate::dtype::DType;
+use dw_base::Exact;
 use std::cmp::Ordering;
 
 /// The 32 bytes by which an event is named within its type.
@@ -43,4 +44,10 @@ impl Ord for DocKey {
             .cmp(&other.dtype)
             .then_with(|| self.uid.cmp(&other.uid))
     }
+}
+
+impl Exact for DocKey {
+    ghost use Rattle.dw_key.specs.DocKeys.{exact_doc_keys};
+
+    ghost exact = { exact_doc_keys };
 }

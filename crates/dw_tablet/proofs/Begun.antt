@@ -10,11 +10,17 @@ use Rattle.std.specs.Ordering.{MatchOrdering}
 use Rattle.std.specs.declared.cmp.Ordering.{Ordering}
 use Rattle.std.specs.declared.cmp.Ordering.TheVariants.{Less, Equal, Greater}
 use Rattle.std.proofs.lemmas.Bool.Decides.{nat_tests}
+use Rattle.dw_derive.specs.Entries.{doc_text}
 use Rattle.dw_derive.proofs.Reading.{begins_with, begins as begins_so}
 use Rattle.dw_tablet.specs.declared.span.Span.{Span}
 use Rattle.dw_tablet.specs.Places.{below, Ascends, AreFrom, IsApart, AgreesAt, covers, gap, onward}
 use Rattle.dw_tablet.specs.Held.{Held, Agrees}
-use Rattle.dw_tablet.specs.Fronts.{begins, with_front, front_gap}
+use Rattle.dw_tablet.specs.Fronts.{begins, with_front, front_gap, values_front, ValuesStandInFronts}
+use Rattle.dw_tablet.specs.Positions.{field_start}
+use Rattle.dw_key.specs.KeyCode.{escaped}
+use Rattle.dw_key.proofs.Escapes.{escaped-append}
+use Rattle.dw_tablet.proofs.Joined.{joined_on}
+use Rattle.dw_tablet.proofs.IndexKeys.{index_key, value_key}
 use Rattle.dw_tablet.proofs.Order.{clash, back}
 use Rattle.dw_tablet.proofs.Gap.{gap_is, filter_twice}
 use Rattle.dw_tablet.proofs.Searching.{IsCut, cut, rest_of}
@@ -109,3 +115,18 @@ gap_some t front h = ap (λ b. cond b (Some (gap t.spans front)) None) h
 
 pub gap_none : (t : Held) (front : List ℕ) → begins front (gap t.spans front) ≡ false → front_gap t front ≡ None
 gap_none t front h = ap (λ b. cond b (Some (gap t.spans front)) None) h
+
+-- ---- values that begin with a text
+
+pub stand_in_fronts : ValuesStandInFronts
+stand_in_fronts shard field text names snapshot key v low high said begun =
+    let k = value_key shard field key v (index_key field names snapshot key v said) low high in
+    let w = begins_with v.0 text begun in
+    let more = escaped w.0 ++ (0 ∷ 255 ∷ (escaped (doc_text v.1) ++ (0 ∷ 0 ∷ k.rest))) in
+    let is : key ≡ values_front shard field text ++ more =
+    k.is
+        ∙ ap (λ l. field_start shard field ++ l) (ap (λ x. escaped x ++ (0 ∷ 255 ∷ (escaped (doc_text v.1) ++ (0 ∷ 0 ∷ k.rest)))) w.1
+        ∙ ap (λ x. x ++ (0 ∷ 255 ∷ (escaped (doc_text v.1) ++ (0 ∷ 0 ∷ k.rest)))) (escaped-append text w.0)
+        ∙ joined_on (escaped text) (escaped w.0) (0 ∷ 255 ∷ (escaped (doc_text v.1) ++ (0 ∷ 0 ∷ k.rest))))
+        ∙ sym (joined_on (field_start shard field) (escaped text) more) in
+    ap (begins (values_front shard field text)) is ∙ begins_so (values_front shard field text) more

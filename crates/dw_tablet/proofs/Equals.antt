@@ -171,7 +171,7 @@ between_first f (k ∷ ks) p q v h = at (λ j. more (between_first f ks p q v j)
 
 -- ---- the cells of one value
 
-kept_some : (only : Option (List ℕ)) (types : Option Types) (o : Option Value) (v : Value) → kept_if only types o ≡ Some v → (o ≡ Some v) × (is_only only v.0 ≡ true)
+pub kept_some : (only : Option (List ℕ)) (types : Option Types) (o : Option Value) (v : Value) → kept_if only types o ≡ Some v → (o ≡ Some v) × (is_only only v.0 ≡ true)
 kept_some only types None v h = cc
 kept_some only types (Some w) v h = at (is_only only w.0) refl (is_of types w.1.dtype) h
   where

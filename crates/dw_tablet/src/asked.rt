@@ -11,7 +11,7 @@ use dw_vis::Auths;
 /// Which cells of the field index are asked for: those of a field that a reader sees, of batches up to a
 /// snapshot.
 #[derive(Clone, Copy)]
-pub(crate) struct Asked<'t> {
+pub struct Asked<'t> {
     pub(crate) field: &'t str,
     pub(crate) auths: &'t Auths,
     pub(crate) snapshot: u64,

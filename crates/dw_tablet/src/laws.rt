@@ -2,6 +2,7 @@
 
 ghost use Rattle.dw_tablet.specs.Held.{SameBetween};
 ghost use Rattle.dw_tablet.specs.EqualWalks.{EqualWalksAreOrdered};
+ghost use Rattle.dw_tablet.specs.Fronts.{ValuesStandInFronts};
 
 /// Where all places from one on and before another are covered, a tablet and each content that agrees
 /// with it have the same keys there.
@@ -13,4 +14,9 @@ pub fn same_between()
 /// the bound.
 pub fn equal_walks_are_ordered()
     ensures { EqualWalksAreOrdered }
+{}
+
+/// The cells of a value of a field that begins with a text are among those whose keys begin so.
+pub fn values_stand_in_fronts()
+    ensures { ValuesStandInFronts }
 {}

@@ -18,11 +18,12 @@ mod stored;
 mod tablet;
 mod walking;
 
+pub use asked::Asked;
 pub use cursor::{Cursor, CursorTop};
 pub use document::Doc;
 pub use dw_base::OutOfMemory;
 pub use field_values::{FieldValues, LeafError};
-pub use laws::{equal_walks_are_ordered, same_between};
+pub use laws::{equal_walks_are_ordered, same_between, values_stand_in_fronts};
 pub use said::{EventSaid, IndexSaid, Said};
 pub use span::Span;
 pub use steps::Steps;

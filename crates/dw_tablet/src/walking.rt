@@ -38,6 +38,33 @@ impl Tablet {
         };
         cursor_at(self, asked, None, Bound::Start, None)
     }
+
+    /// A cursor over the cells of one value and of documents of some types, at the first one of a document
+    /// that meets the bound.
+    #[tactic(auto, using(crate::proofs::Ranges::bound_in_value))]
+    pub fn equal_cursor<'t>(
+        &'t self,
+        field: &'t str,
+        value: &'t str,
+        types: &'t Types,
+        auths: &'t Auths,
+        snapshot: u64,
+        bound: &Bound,
+    ) -> Cursor<'t>
+        ensures tablet { result.tablet.now ≡ self.now }
+        ensures asked { shown_by result.asked ≡ shown_at field.now auths.now snapshot (Some value.now) (Some types.now) }
+        ensures place { place_at result ≡ bound_place self.now.shard field.now value.now bound.now }
+        ensures end { end_at result ≡ value_end self.now.shard field.now value.now }
+    {
+        let asked = Asked {
+            field,
+            auths,
+            snapshot,
+            only: Some(value),
+            types: Some(types),
+        };
+        cursor_at(self, asked, Some(value), *bound, None)
+    }
 }
 
 impl<'t> Cursor<'t> {
@@ -56,25 +83,6 @@ impl<'t> Cursor<'t> {
         let asked = Asked {
             only: None,
             types: None,
-            ..self.asked
-        };
-        *self = cursor_at(self.tablet, asked, Some(value), *bound, None);
-    }
-
-    /// The same, for a walk over the cells of this value alone, and of documents of these types.
-    #[tactic(auto, using(crate::proofs::Ranges::bound_in_value))]
-    pub fn seek_equal(&mut self, value: &'t str, types: &'t Types, bound: &Bound)
-        ensures tablet { self.new.tablet.now ≡ self.old.tablet.now }
-        ensures asked { shown_by self.new.asked ≡ shown_at self.old.asked.field.now self.old.asked.auths.now self.old.asked.snapshot (Some value.now) (Some types.now) }
-        ensures field { self.new.asked.field.now ≡ self.old.asked.field.now }
-        ensures auths { self.new.asked.auths.now ≡ self.old.asked.auths.now }
-        ensures snapshot { self.new.asked.snapshot ≡ self.old.asked.snapshot }
-        ensures place { place_at self.new ≡ bound_place self.old.tablet.now.shard self.old.asked.field.now value.now bound.now }
-        ensures end { end_at self.new ≡ value_end self.old.tablet.now.shard self.old.asked.field.now value.now }
-    {
-        let asked = Asked {
-            only: Some(value),
-            types: Some(types),
             ..self.asked
         };
         *self = cursor_at(self.tablet, asked, Some(value), *bound, None);
