@@ -1,0 +1,6 @@
+pub mod Rows
+pub mod Enumerated
+pub mod Valued
+pub mod Found
+pub mod Allowed
+pub mod Rests
