@@ -4,3 +4,5 @@ pub mod Valued
 pub mod Found
 pub mod Allowed
 pub mod Rests
+pub mod Searches
+pub mod Batches

@@ -2,7 +2,16 @@
 //! documents are read.
 #![tactic(auto)]
 
+mod ask;
+mod gaps;
 mod laws;
+mod reading;
+mod searching;
+mod stop;
+mod walking;
 
+pub use ask::{Ask, Batch, Resume};
 pub use dw_base::OutOfMemory;
+pub use gaps::Gaps;
 pub use laws::{answers_are_candidates, trees_find_candidates};
+pub use searching::search;
