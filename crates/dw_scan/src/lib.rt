@@ -15,3 +15,8 @@ pub use dw_base::OutOfMemory;
 pub use gaps::Gaps;
 pub use laws::{answers_are_candidates, trees_find_candidates};
 pub use searching::search;
+
+#[cfg(test)]
+mod partly_known_keys;
+#[cfg(test)]
+mod tests;
