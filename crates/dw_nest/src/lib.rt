@@ -15,6 +15,7 @@ mod truth;
 
 pub use bound::{Bound, Found, Top};
 pub use leaf::DocIter;
+pub use place::Place;
 pub use tree::Tree;
 pub use truth::Truth;
 

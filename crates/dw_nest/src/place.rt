@@ -6,7 +6,7 @@ ghost use Rattle.dw_nest.specs.Search.{need_of_and, need_of_or};
 /// positive place the keys are looked for at which its value is not No, at a negative place those
 /// at which it is not Yes.
 #[derive(Clone, Copy, Debug)]
-pub(crate) enum Place {
+pub enum Place {
     Positive,
     Negative,
 }

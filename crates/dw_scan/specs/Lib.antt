@@ -1,0 +1,5 @@
+pub mod Trees
+pub mod Candidates
+pub mod Answers
+pub mod Stops
+pub mod Scanned

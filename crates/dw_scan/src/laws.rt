@@ -1,0 +1,13 @@
+//! What holds of all queries and the events of a shard. The functions do nothing: their contracts are laws.
+
+ghost use Rattle.dw_scan.specs.Candidates.{TreesFindCandidates, AnswersAreCandidates};
+
+/// The tree of an anchored query over the keys of the events of a shard finds its candidates, and nothing else.
+pub fn trees_find_candidates()
+    ensures { TreesFindCandidates }
+{}
+
+/// What satisfies a query is a candidate.
+pub fn answers_are_candidates()
+    ensures { AnswersAreCandidates }
+{}

@@ -1,0 +1,22 @@
+//! Search in one shard that resumes anywhere: the candidates of a query are found by the indexes alone, and only their
+//! documents are read.
+#![tactic(auto)]
+
+mod ask;
+mod gaps;
+mod laws;
+mod reading;
+mod searching;
+mod stop;
+mod walking;
+
+pub use ask::{Ask, Batch, Resume};
+pub use dw_base::OutOfMemory;
+pub use gaps::Gaps;
+pub use laws::{answers_are_candidates, trees_find_candidates};
+pub use searching::search;
+
+#[cfg(test)]
+mod partly_known_keys;
+#[cfg(test)]
+mod tests;
