@@ -6,3 +6,6 @@ pub mod Allowed
 pub mod Rests
 pub mod Searches
 pub mod Batches
+pub mod ShardOrder
+pub mod FieldCells
+pub mod WorldLeaves

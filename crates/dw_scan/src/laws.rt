@@ -1,6 +1,7 @@
 //! What holds of all queries and the events of a shard. The functions do nothing: their contracts are laws.
 
 ghost use Rattle.dw_scan.specs.Candidates.{TreesFindCandidates, AnswersAreCandidates};
+ghost use Rattle.dw_scan.specs.Worlds.{SeenAscend, LeavesFindTheSeen};
 
 /// The tree of an anchored query over the keys of the events of a shard finds its candidates, and nothing else.
 pub fn trees_find_candidates()
@@ -10,4 +11,15 @@ pub fn trees_find_candidates()
 /// What satisfies a query is a candidate.
 pub fn answers_are_candidates()
     ensures { AnswersAreCandidates }
+{}
+
+/// The events of a shard are seen in the order of their keys, each once.
+pub fn seen_ascend()
+    ensures { SeenAscend }
+{}
+
+/// The documents that a leaf finds in the shard of a world's tables are the events that are seen there with a
+/// value which meets it.
+pub fn leaves_find_the_seen()
+    ensures { LeavesFindTheSeen }
 {}
