@@ -1,5 +1,5 @@
 -- What a leaf is as an iterator, by what it is made of.
-use Rattle.std.specs.Prelude.{◌≡◌, ℕ, Bool, false, is_some, List, [], ◌∷◌, Some, slice_get, nat_eq}
+use Rattle.std.specs.Prelude.{◌≡◌, ℕ, Bool, false, is_some, List, [], Some, slice_get, nat_eq}
 use Rattle.std.specs.Cmp.Lexicographic.{pointwise}
 use Rattle.dw_key.specs.declared.doc_key.DocKey.{DocKey}
 use Rattle.dw_nest.specs.declared.bound.Bound.{Bound}
@@ -12,6 +12,7 @@ use Rattle.dw_iter.specs.declared.set.SetLeaf.{SetLeaf}
 use Rattle.dw_iter.specs.declared.leaf.Leaf.{Leaf}
 use Rattle.dw_iter.specs.declared.leaf.Leaf.TheVariants.{Equal, Set}
 use Rattle.dw_iter.specs.LeafLists.{StandsFor}
+use Rattle.dw_iter.specs.Made.{made_of}
 use Rattle.dw_iter.specs.Tops.{top_of, set_top}
 
 -- the lists that an equality stands for
@@ -47,5 +48,5 @@ keys_of (Equal s) = equal_keys s
 keys_of (Set s) = s.keys
 
 abbrev pub made_from : Leaf → List (List ℕ)
-made_from (Equal s) = s.field.now ∷ s.value.now ∷ []
+made_from (Equal s) = made_of s.tablet.now s.field.now s.value.now
 made_from (Set s) = []

@@ -1,3 +1,4 @@
 pub mod LeafLists
+pub mod Made
 pub mod Tops
 pub mod LeafParts

@@ -1,10 +1,11 @@
-ghost use Rattle.std.specs.Prelude.{◌≡◌, ◌∷◌, [], is_some, IfOk, List, ℕ, Some};
+ghost use Rattle.std.specs.Prelude.{◌≡◌, is_some, IfOk, IfSome, List, ℕ, Some};
 ghost use Rattle.dw_nest.specs.declared.bound.Bound.{Bound};
 ghost use Rattle.dw_tablet.specs.Positions.{value_end, bound_place};
 ghost use Rattle.dw_tablet.specs.Values.{shown_at, shown_by, docs_of};
 ghost use Rattle.dw_tablet.specs.Walks.{place_at, end_at, gap_shown};
 ghost use Rattle.dw_tablet.specs.EqualWalks.{BoundFits};
 ghost use Rattle.dw_iter.specs.LeafLists.{StandsFor};
+ghost use Rattle.dw_iter.specs.Made.{made_of, LacksPlace};
 ghost use Rattle.dw_iter.specs.Tops.{top_of};
 
 use dw_base::{Bytes, OutOfMemory};
@@ -96,10 +97,19 @@ impl<'t> EqualLeaf<'t> {
         at_bound(tablet, field, value, types, auths, snapshot, &Bound::Start)
     }
 
+    /// What is shown as missing is a place of the value that is not covered.
+    fn gap_is_lacked(&self)
+        ensures { IfSome (gap_shown self.now.cursor) (λ place. LacksPlace (made_of self.now.tablet.now self.now.field.now self.now.value.now) place) }
+    {
+        self.cursor.gap_is_first();
+    }
+
     /// The first place that is not covered, at or after the position, exactly where the top is missing.
     pub fn gap(&self, alloc: Global) -> Result<Option<Bytes>, OutOfMemory>
-        ensures { IfOk result (λ o. o ≡ gap_shown self.now.cursor) }
+        ensures shown { IfOk result (λ o. o ≡ gap_shown self.now.cursor) }
+        ensures lacks { IfOk result (λ o. IfSome o (λ place. LacksPlace (made_of self.now.tablet.now self.now.field.now self.now.value.now) place)) }
     {
+        self.gap_is_lacked();
         self.cursor.gap(alloc)
     }
 }
@@ -118,7 +128,7 @@ impl DocIter for EqualLeaf<'_> {
 
     ghost keys = { λ s. docs_of (shown_at s.field.now s.auths.now s.snapshot (Some s.value.now) (Some s.types.now)) s.tablet.now.keys };
 
-    ghost made = { λ s. s.field.now ∷ s.value.now ∷ [] };
+    ghost made = { λ s. made_of s.tablet.now s.field.now s.value.now };
 
     fn seek(&mut self, bound: &Bound) {
         *self = at_bound(

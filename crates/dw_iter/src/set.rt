@@ -85,7 +85,7 @@ impl SetLeaf {
     ) -> Result<SetLeaf, LeafError>
         ensures stands { IfOk result (λ s. (content : List (List ℕ)) → Agrees tablet.now content → AreLeafDocs (field_is leaf.now) (is_met leaf.now) auths.now snapshot types.now content s.keys) }
         ensures bound { IfOk result (λ s. s.bound ≡ Bound.Start) }
-        ensures missing { MatchResult result (λ _. front_gap tablet.now (values_front tablet.now.shard (field_is leaf.now) (front_is leaf.now)) ≡ None) (IsLeafError (front_gap tablet.now (values_front tablet.now.shard (field_is leaf.now) (front_is leaf.now)))) }
+        ensures missing { MatchResult result (λ _. front_gap tablet.now (values_front tablet.now.shard (field_is leaf.now) (front_is leaf.now)) ≡ None) (IsLeafError tablet.now (values_front tablet.now.shard (field_is leaf.now) (front_is leaf.now))) }
     {
         forms_begin_so();
         values_stand_in_fronts();

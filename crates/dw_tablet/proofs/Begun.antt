@@ -110,11 +110,12 @@ module _ (t : Held) (front : List ℕ) (apart : IsApart t.spans) where
   begun_same out content agrees =
       ap (with_front front) (sym agrees.same) ∙ filter_twice (λ k. covers t.spans k) (begins front) content (λ k h. begun_covered out k h)
 
-pub gap_some : (t : Held) (front : List ℕ) → begins front (gap t.spans front) ≡ true → front_gap t front ≡ Some (gap t.spans front)
-gap_some t front h = ap (λ b. cond b (Some (gap t.spans front)) None) h
-
-pub gap_none : (t : Held) (front : List ℕ) → begins front (gap t.spans front) ≡ false → front_gap t front ≡ None
-gap_none t front h = ap (λ b. cond b (Some (gap t.spans front)) None) h
+pub none_out : (t : Held) (front : List ℕ) → front_gap t front ≡ None → begins front (gap t.spans front) ≡ false
+none_out t front h = at (begins front (gap t.spans front)) h
+  where
+    at : (b : Bool) → cond b (Some (gap t.spans front)) None ≡ None → b ≡ false
+    at true g = cc
+    at false g = refl
 
 -- ---- values that begin with a text
 

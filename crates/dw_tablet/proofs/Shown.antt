@@ -1,15 +1,15 @@
 -- What a cursor shows of each content that agrees with its tablet.
 use Rattle.std.proofs.Common.{◌≡◌, ℕ, List, [], ◌∷◌, ◌++◌, refl, sym, ap, ◌∙◌, subst, Bool, true, false, not, cond, ◌&&◌, drop}
-use Rattle.std.specs.Prelude.{filter, filter_map, slice_get, Option, Some, None, is_some}
+use Rattle.std.specs.Prelude.{filter, filter_map, slice_get, Option, Some, None, is_some, IfSome}
 use Rattle.std.specs.List.{AllByRecursion, cons_option}
 use Rattle.std.proofs.lemmas.Bool.{cond_both, and_parts}
 use Rattle.std.proofs.lemmas.List.Elements.{filter_map-append}
-use Rattle.dw_tablet.specs.Places.{below, Ascends, IsApart, between, onward, gap}
+use Rattle.dw_tablet.specs.Places.{below, Ascends, IsApart, IsGap, between, onward, gap}
 use Rattle.dw_tablet.specs.Held.{Held, Agrees}
 use Rattle.dw_tablet.specs.Values.{Value}
 use Rattle.dw_tablet.specs.Cursors.{known_upto, known_keys, gap_before, from_first, says, FirstIs}
 use Rattle.dw_tablet.proofs.Order.{not_itself, back, past, below_upto, upto, upto_below, clash}
-use Rattle.dw_tablet.proofs.Gap.{filter_twice, same_between}
+use Rattle.dw_tablet.proofs.Gap.{filter_twice, same_between, gap_is}
 use Rattle.dw_tablet.proofs.Cut.{filter_up, before_next}
 use Rattle.dw_tablet.proofs.Searching.{in_both}
 use Rattle.dw_tablet.proofs.Known.{none_between, parted, known_le, known_covered}
@@ -130,3 +130,12 @@ module _ (t : Held) (content : List (List ℕ)) (p e : List ℕ) (f : List ℕ �
       nothing_more : (xs : List (List ℕ)) → xs ++ [] ≡ xs
       nothing_more [] = refl
       nothing_more (x ∷ xs) = ap (λ l. x ∷ l) (nothing_more xs)
+
+-- a place that is shown as missing is the first one that is not covered
+pub gap_first : (t : Held) (p e : List ℕ) (shows : Bool) → IsApart t.spans → IfSome (cond shows None (gap_before t p e)) (λ q. IsGap t.spans p q × (below q e ≡ true))
+gap_first t p e true apart = tt
+gap_first t p e false apart = at (below (gap t.spans p) e) refl
+  where
+    at : (b : Bool) → below (gap t.spans p) e ≡ b → IfSome (cond b (Some (gap t.spans p)) None) (λ q. IsGap t.spans p q × (below q e ≡ true))
+    at true h = (gap_is t.spans p apart, h)
+    at false h = tt

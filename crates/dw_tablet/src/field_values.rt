@@ -1,4 +1,6 @@
-ghost use Rattle.std.specs.Prelude.{◌≡◌, ◌<◌, ℕ, List, length, get_or, [], Some, None, IfOk, MatchOption, MatchResult};
+ghost use Rattle.std.specs.Prelude.{◌≡◌, ◌<◌, ℕ, List, length, get_or, [], Some, None, IfOk, IfSome, MatchOption, MatchResult};
+ghost use Rattle.std.specs.Option.{option_map};
+ghost use Rattle.dw_tablet.specs.Places.{IsGap};
 ghost use Rattle.dw_tablet.specs.Held.{Agrees};
 ghost use Rattle.dw_tablet.specs.Fronts.{values_front, with_front, front_gap};
 ghost use Rattle.dw_tablet.specs.FrontWalks.{IsLeafError};
@@ -52,6 +54,18 @@ impl Tablet {
         front.to_bytes(alloc)
     }
 
+    /// The first place that begins with some bytes and is not covered.
+    fn front_gap<'t>(&'t self, front: &'t [u8]) -> Option<&'t [u8]>
+        ensures gap { option_map (λ q. q.now) result ≡ front_gap self.now front.now }
+        ensures first { IfSome result (λ q. IsGap self.now.spans front.now q.now) }
+    {
+        let gap = first_gap(self.spans(), front);
+        if gap.starts_with(front) {
+            return Some(gap);
+        }
+        None
+    }
+
     /// The cells of the values of a field that begin with a text. Missing exactly where a place of them is not
     /// covered, with the first such place, before any cell is looked at.
     pub fn field_values<'t>(
@@ -65,11 +79,11 @@ impl Tablet {
     ) -> Result<FieldValues<'t>, LeafError>
         ensures lent { IfOk result (λ v. (content : List (List ℕ)) → Agrees self.now content → v.keys.now ≡ with_front (values_front self.now.shard field.now text.now) content) }
         ensures asked { IfOk result (λ v. shown_by v.asked ≡ shown_at field.now auths.now snapshot None (Some types.now)) }
-        ensures missing { MatchResult result (λ _. front_gap self.now (values_front self.now.shard field.now text.now) ≡ None) (IsLeafError (front_gap self.now (values_front self.now.shard field.now text.now))) }
+        ensures missing { MatchResult result (λ _. front_gap self.now (values_front self.now.shard field.now text.now) ≡ None) (IsLeafError self.now (values_front self.now.shard field.now text.now)) }
     {
+        let _spans = self.spans();
         let front = self.values_front(alloc, field, text)?;
-        let gap = first_gap(self.spans(), front.as_slice());
-        if gap.starts_with(front.as_slice()) {
+        if let Some(gap) = self.front_gap(front.as_slice()) {
             return Err(LeafError::Missing(Bytes::of(alloc, gap)?));
         }
         let asked = Asked {

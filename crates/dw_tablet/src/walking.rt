@@ -1,4 +1,5 @@
-ghost use Rattle.std.specs.Prelude.{◌≡◌, ◌↔◌, IsTrue, is_some, [], ℕ, List, drop, slice_get, Some, None, IfOk, MatchOption};
+ghost use Rattle.std.specs.Prelude.{◌≡◌, ◌↔◌, IsTrue, is_some, true, [], ℕ, List, drop, slice_get, Some, None, IfOk, IfSome, MatchOption};
+ghost use Rattle.dw_tablet.specs.Places.{below, IsGap};
 ghost use Rattle.std.specs.Option.{option_map};
 ghost use Rattle.dw_tablet.specs.Positions.{field_start, field_end, value_end, bound_place};
 ghost use Rattle.dw_tablet.specs.Held.{Agrees};
@@ -130,6 +131,13 @@ impl<'t> Cursor<'t> {
         if let Some(key) = self.keys.first() {
             *self = cursor_at(self.tablet, self.asked, None, Bound::Start, Some(key.code()));
         }
+    }
+
+    /// What is shown as missing is not covered, and all places from the position up to it are.
+    pub fn gap_is_first(&self)
+        ensures { IfSome (gap_shown self.now) (λ q. IsGap self.now.tablet.now.spans (place_at self.now) q × (below q (end_at self.now) ≡ true)) }
+    {
+        let _spans = self.tablet.spans();
     }
 
     /// The first place at or after the position that is not covered, exactly where the top is missing.
