@@ -58,7 +58,7 @@ use Rattle.dw_derive.proofs.Decoding.{key_of_code}
 
 -- ---- beginnings
 
-begins_with : (xs p : List ℕ) → starts_with nat_eq xs p ≡ true → (rest : List ℕ) × (xs ≡ p ++ rest)
+pub begins_with : (xs p : List ℕ) → starts_with nat_eq xs p ≡ true → (rest : List ℕ) × (xs ≡ p ++ rest)
 begins_with xs [] h = (xs, refl)
 begins_with [] (p ∷ ps) h = cc
 begins_with (x ∷ xs) (p ∷ ps) h = at (nat_eq p x) refl h (begins_with xs ps)
@@ -70,7 +70,7 @@ begins_with (x ∷ xs) (p ∷ ps) h = at (nat_eq p x) refl h (begins_with xs ps)
     at true e h r = let s : (rest : List ℕ) × (xs ≡ ps ++ rest) = r h in let q : x ≡ p = same e in (s.0, λ i. q i ∷ s.1 i)
     at false e h r = cc
 
-begins : (p rest : List ℕ) → starts_with nat_eq (p ++ rest) p ≡ true
+pub begins : (p rest : List ℕ) → starts_with nat_eq (p ++ rest) p ≡ true
 begins [] rest = refl
 begins (x ∷ p) rest = ap (λ b. b && starts_with nat_eq (p ++ rest) p) (itself x) ∙ begins p rest
   where
