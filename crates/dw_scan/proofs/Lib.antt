@@ -6,3 +6,5 @@ pub mod Allowed
 pub mod Rests
 pub mod Searches
 pub mod Batches
+pub mod Sharded
+pub mod WorldViews

@@ -3,3 +3,4 @@ pub mod Candidates
 pub mod Answers
 pub mod Stops
 pub mod Scanned
+pub mod Worlds

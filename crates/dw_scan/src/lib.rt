@@ -13,7 +13,7 @@ mod walking;
 pub use ask::{Ask, Batch, Resume};
 pub use dw_base::OutOfMemory;
 pub use gaps::Gaps;
-pub use laws::{answers_are_candidates, trees_find_candidates};
+pub use laws::{answers_are_candidates, documents_are_views, trees_find_candidates};
 pub use searching::search;
 
 #[cfg(test)]
