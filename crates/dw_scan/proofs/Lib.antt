@@ -9,3 +9,5 @@ pub mod Batches
 pub mod ShardOrder
 pub mod FieldCells
 pub mod WorldLeaves
+pub mod Sharded
+pub mod WorldViews

@@ -40,7 +40,7 @@ use Rattle.dw_tablet.specs.Places.{shard_start, shard_end}
 use Rattle.dw_tablet.specs.Values.{is_of_doc, some_says}
 use Rattle.dw_iter.specs.LeafLists.{leaf_value}
 use Rattle.dw_scan.specs.Candidates.{keys_of, leaf_keys}
-use Rattle.dw_scan.specs.Worlds.{shard_content, shard_seen, IsIndexedAlike, LeavesFindTheSeen}
+use Rattle.dw_scan.specs.Worlds.{content_of, shard_seen, IsIndexedAlike, LeavesFindTheSeen}
 use Rattle.dw_scan.proofs.Found.{kept_ascend}
 use Rattle.dw_scan.proofs.ShardOrder.{seen_ascend}
 use Rattle.dw_scan.proofs.FieldCells.{says, meets_leaf, counts, event_counts}
@@ -137,7 +137,7 @@ module _ (w : World) (shard : List ℕ) (names : List (List ℕ)) (snapshot : �
   any_alike_all f g h [] all = refl
   any_alike_all f g h (e ∷ es) all = ap (λ b. b || list_any f es) (h e all.0) ∙ ap (λ b. g e || b) (any_alike_all f g h es all.1)
 
-  of_cells : (doc : DocKey) → some_says (leaf_value field test names snapshot types) (shard_content (tables w) shard) doc ≡ list_any (λ e. list_any (says shard names snapshot types field test doc w.dict dict alike) (slots_of w.dict e)) w.events
+  of_cells : (doc : DocKey) → some_says (leaf_value field test names snapshot types) (content_of w shard) doc ≡ list_any (λ e. list_any (says shard names snapshot types field test doc w.dict dict alike) (slots_of w.dict e)) w.events
   of_cells doc =
       let f = leaf_value field test names snapshot types in
       let inside : Slot × List ℕ → Bool = λ c. (c.0.table == 0) && is_in_span (shard_start shard) (shard_end shard) c.0.key in
@@ -152,7 +152,7 @@ module _ (w : World) (shard : List ℕ) (names : List (List ℕ)) (snapshot : �
       joined true b c = refl
       joined false b c = refl
 
-  exact : (doc : DocKey) → has (leaf_keys dict types (shard_seen w shard names snapshot) field test) doc ≡ some_says (leaf_value field test names snapshot types) (shard_content (tables w) shard) doc
+  exact : (doc : DocKey) → has (leaf_keys dict types (shard_seen w shard names snapshot) field test) doc ≡ some_says (leaf_value field test names snapshot types) (content_of w shard) doc
   exact doc =
       of_seen doc
       ∙ any_alike_all _ _ (λ e h. of_event doc e ∙ sym (event_counts shard names snapshot types field test doc w.dict dict alike e h)) w.events lawful.lawful

@@ -4,3 +4,4 @@ pub mod Answers
 pub mod Stops
 pub mod Scanned
 pub mod Worlds
+pub mod Parts

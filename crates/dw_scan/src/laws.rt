@@ -1,7 +1,7 @@
 //! What holds of all queries and the events of a shard. The functions do nothing: their contracts are laws.
 
 ghost use Rattle.dw_scan.specs.Candidates.{TreesFindCandidates, AnswersAreCandidates};
-ghost use Rattle.dw_scan.specs.Worlds.{SeenAscend, LeavesFindTheSeen};
+ghost use Rattle.dw_scan.specs.Worlds.{DocumentsAreViews, LeavesFindTheSeen, SeenAscend};
 
 /// The tree of an anchored query over the keys of the events of a shard finds its candidates, and nothing else.
 pub fn trees_find_candidates()
@@ -22,4 +22,9 @@ pub fn seen_ascend()
 /// value which meets it.
 pub fn leaves_find_the_seen()
     ensures { LeavesFindTheSeen }
+{}
+
+/// The documents in a shard of a world's tables, as a reader sees them, are the views of the world's events.
+pub fn documents_are_views()
+    ensures { DocumentsAreViews }
 {}

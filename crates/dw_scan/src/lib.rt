@@ -14,7 +14,8 @@ pub use ask::{Ask, Batch, Resume};
 pub use dw_base::OutOfMemory;
 pub use gaps::Gaps;
 pub use laws::{
-    answers_are_candidates, leaves_find_the_seen, seen_ascend, trees_find_candidates,
+    answers_are_candidates, documents_are_views, leaves_find_the_seen, seen_ascend,
+    trees_find_candidates,
 };
 pub use searching::search;
 

@@ -312,6 +312,14 @@ fn batches_end_at_budget_want_or_end(rt: HostRuntime) -> Result<(), Fail> {
     Ok(())
 }
 
+/// The key to go on after, or None at the end.
+fn next_after(batch: &Batch) -> Option<DocKey> {
+    if batch.ended {
+        return None;
+    }
+    batch.resume.after
+}
+
 /// Searches once, and puts the numbers found and a stroke. The key to go on after, or None at the end.
 fn put_batch(
     alloc: Global,
@@ -325,10 +333,7 @@ fn put_batch(
     let batch = batch_of(alloc, of, tree, after, budget, want)?;
     put_found(out, &batch)?;
     out.push('|')?;
-    if batch.ended {
-        return Ok(None);
-    }
-    Ok(batch.resume.after)
+    Ok(next_after(&batch))
 }
 
 /// The numbers found by batch after batch from the beginning.
@@ -419,9 +424,20 @@ fn a_stuck_iterator_is_asked_for_its_place(rt: HostRuntime) -> Result<(), Fail> 
         )?;
     }
     let batch = batch_of(alloc, &of, &mut tree, None, 9, 9)?;
-    let place = batch.missing.ok_or("no place")?;
+    let place = place_of(batch)?;
     assert!(rt; place.as_slice() == b"A".as_slice());
     Ok(())
+}
+
+/// The place that a batch names.
+fn place_of(batch: Batch) -> Result<Bytes, Fail> {
+    let Batch {
+        found: _,
+        resume: _,
+        ended: _,
+        missing,
+    } = batch;
+    Ok(missing.ok_or("no place")?)
 }
 
 /// Loads from a place on, which is not covered.
@@ -436,6 +452,27 @@ fn load_missing(
     load(&mut keeper, &mut of.tablet, place, 0)
 }
 
+/// Where the second event is covered in part: the budget, what is wanted, and what comes of it.
+const COVERED_IN_PART: [(u32, u32, &str); 3] = [
+    (1, 9, "1 after 1"),
+    (9, 1, "1 after 1"),
+    (9, 9, "1 after 1 missing"),
+];
+
+/// Searches what is covered in part, and loads the place that is missing.
+fn load_the_rest(
+    rt: &impl Abort,
+    alloc: Global,
+    of: &mut Fixture,
+    tree: &mut Tree<PartlyKnownKeys<'_>>,
+) -> Result<(), Fail> {
+    for (budget, want, wanted) in COVERED_IN_PART {
+        check(rt, alloc, of, tree, 0, budget, want, wanted)?;
+    }
+    let place = place_of(batch_of(alloc, of, tree, None, 9, 9)?)?;
+    load_missing(rt, alloc, of, place.as_slice())
+}
+
 #[test]
 fn a_document_that_is_not_covered_is_named(rt: HostRuntime) -> Result<(), Fail> {
     let alloc = rt.alloc();
@@ -443,12 +480,7 @@ fn a_document_that_is_not_covered_is_named(rt: HostRuntime) -> Result<(), Fail> 
     let mut of = fixture_of(alloc, 3)?;
     let spots = spots_of(alloc, &[1, 2, 3, 4, 5, 6], 0)?;
     let mut tree = leaf_of(spots.as_slice(), b"A");
-    check(&rt, alloc, &of, &mut tree, 0, 1, 9, "1 after 1")?;
-    check(&rt, alloc, &of, &mut tree, 0, 9, 1, "1 after 1")?;
-    check(&rt, alloc, &of, &mut tree, 0, 9, 9, "1 after 1 missing")?;
-    let batch = batch_of(alloc, &of, &mut tree, None, 9, 9)?;
-    let place = batch.missing.ok_or("no place")?;
-    load_missing(&rt, alloc, &mut of, place.as_slice())?;
+    load_the_rest(&rt, alloc, &mut of, &mut tree)?;
     check(&rt, alloc, &of, &mut tree, 1, 9, 9, "236 after 6 ended")?;
     Ok(())
 }
