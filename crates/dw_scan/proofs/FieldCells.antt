@@ -57,7 +57,7 @@ use Rattle.dw_scan.specs.Worlds.{IsIndexedAlike}
 
 -- ---- texts
 
-same_texts : (a b : List ℕ) → pointwise nat_eq a b ≡ is_same a b
+pub same_texts : (a b : List ℕ) → pointwise nat_eq a b ≡ is_same a b
 same_texts a b = both_ways (pointwise nat_eq a b) (is_same a b) (λ h. same_itself a b ((bytes_decides a b).0 h)) (λ h. (bytes_decides a b).1 (same_is a b h))
 
 apart_from_zero : (b : ℕ) → not (b == 0) ≡ true → b ≢ 0

@@ -11,3 +11,6 @@ pub mod FieldCells
 pub mod WorldLeaves
 pub mod Sharded
 pub mod WorldViews
+pub mod QueryParts
+pub mod LeafTrees
+pub mod TreeErrors

@@ -10,9 +10,12 @@ use Rattle.dw_eval.specs.declared.nquery.NQuery.{NQuery}
 use Rattle.dw_eval.specs.declared.nquery.NQuery.TheOpen.{NQuery-F, Equal, Below, Above, Between, Starts, Ends, Holds, Not, And, Or}
 use Rattle.dw_eval.specs.declared.nquery.NQuery.TheFolds.{fold-NQuery}
 use Rattle.dw_eval.specs.Leaves.{is_below, is_above, holds}
+use Rattle.dw_eval.specs.Meeting.{meets, field_of, front_of}
 use Rattle.dw_tablet.specs.Held.{Held, Agrees}
 use Rattle.dw_tablet.specs.Places.{covers}
 use Rattle.dw_tablet.specs.Fronts.{begins, values_front}
+use Rattle.dw_tablet.specs.declared.field_values.LeafError.{LeafError}
+use Rattle.dw_tablet.specs.declared.field_values.LeafError.TheVariants.{Missing, OutOfMemory}
 use Rattle.dw_iter.specs.declared.leaf.Leaf.{Leaf}
 use Rattle.dw_iter.specs.LeafLists.{AreLeafDocs}
 use Rattle.dw_iter.specs.LeafParts.{LeafStands, made_from}
@@ -50,6 +53,10 @@ part_step shard (Or children) = or (length children) (λ i. slice_index_or child
 abbrev pub parts_of : List ℕ → NQuery → Shape LeafPart
 parts_of shard = fold-NQuery (Shape LeafPart) (part_step shard)
 
+-- what a leaf asks of a value and where its cells stand, by the field and the beginning of what meets it
+abbrev pub set_part : List ℕ → NQuery → LeafPart
+set_part shard q = record { field = field_of q; test = meets q; places = begins (values_front shard (field_of q) (front_of q)) }
+
 -- a place is one of some leaf on an indexed field of the query
 abbrev pub is_leaf_place : List ℕ → NQuery → List ℕ → Bool
 is_leaf_place shard q place = list_any (λ p. p.places place) (leaves (parts_of shard q))
@@ -75,3 +82,18 @@ AreTreesOf tablet ask [] [] = Unit {0}
 AreTreesOf tablet ask [] (q ∷ qs) = ⊥
 AreTreesOf tablet ask (t ∷ ts) [] = ⊥
 AreTreesOf tablet ask (t ∷ ts) (q ∷ qs) = IsTreeOf tablet ask t q × AreTreesOf tablet ask ts qs
+
+-- why there is no iterator of a range or a pattern: a place of it that is not covered, where its field is indexed, or want of memory
+abbrev pub IsSetError : Held → NQuery → Bool → LeafError → Type 0
+IsSetError tablet q indexed (Missing place) = (indexed ≡ true) × ((set_part tablet.shard q).places place ≡ true) × (covers tablet.spans place ≡ false)
+IsSetError tablet q indexed OutOfMemory = Unit {0}
+
+-- why there is no tree of a query: a place of a leaf that is not covered, or want of memory
+abbrev pub IsTreeError : Held → NQuery → LeafError → Type 0
+IsTreeError tablet q (Missing place) = IsLeafGap tablet q place
+IsTreeError tablet q OutOfMemory = Unit {0}
+
+-- the same of some queries
+abbrev pub IsTreesError : Held → List NQuery → LeafError → Type 0
+IsTreesError tablet qs (Missing place) = (list_any (λ q. is_leaf_place tablet.shard q place) qs ≡ true) × (covers tablet.spans place ≡ false)
+IsTreesError tablet qs OutOfMemory = Unit {0}

@@ -3,6 +3,7 @@
 #![tactic(auto)]
 
 mod ask;
+mod building;
 mod gaps;
 mod laws;
 mod reading;
