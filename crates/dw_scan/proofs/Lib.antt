@@ -11,3 +11,4 @@ pub mod FieldCells
 pub mod WorldLeaves
 pub mod Sharded
 pub mod WorldViews
+pub mod WorldSeen
