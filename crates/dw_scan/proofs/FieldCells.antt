@@ -186,140 +186,140 @@ in_shard shard k =
     (λ h. ap (λ row. starts_with nat_eq (part_code row ++ tail) (part_code shard)) (same_is k.row shard h) ∙ begins (part_code shard) tail)
 
 module _ (shard : List ℕ) (names : List (List ℕ)) (snapshot : ℕ) (types : Types) (field : List ℕ) (test : List ℕ → Bool) (doc : DocKey) (world dict : Dictionary)
-  (alike : (snapshot ≡ 0) ⊎ (((rule_of world field).indexed ≡ true) × ((rule_of world field).kind ≡ (rule_of dict field).kind)))
+    (alike : (snapshot ≡ 0) ⊎ (((rule_of world field).indexed ≡ true) × ((rule_of world field).kind ≡ (rule_of dict field).kind)))
   where
-  -- a cell of the shard says a value of the document that meets the leaf
-  abbrev pub says : Slot → Bool
-  says s = (s.table == 0) && (is_in_span (shard_start shard) (shard_end shard) s.key && is_of_doc doc (leaf_value field test names snapshot types s.key))
+    -- a cell of the shard says a value of the document that meets the leaf
+    abbrev pub says : Slot → Bool
+    says s = (s.table == 0) && (is_in_span (shard_start shard) (shard_end shard) s.key && is_of_doc doc (leaf_value field test names snapshot types s.key))
 
-  -- a cell of an event is seen, and has such a value
-  abbrev pub meets_leaf : EventCell → Bool
-  meets_leaf c = sees c.vis names && (is_same c.field field && passes test (norm (rule_of dict c.field).kind c.raw))
+    -- a cell of an event is seen, and has such a value
+    abbrev pub meets_leaf : EventCell → Bool
+    meets_leaf c = sees c.vis names && (is_same c.field field && passes test (norm (rule_of dict c.field).kind c.raw))
 
-  -- and the event is of a batch that is seen, of the shard and the document, and of a type that is asked for
-  abbrev pub counts : Event → Bool → Bool
-  counts e met = nat_le e.1.batch snapshot && (is_same e.0.shard shard && (is_eq (doc_key_cmp doc e.0.key) && (is_type_wanted types e.0.key.dtype && met)))
+    -- and the event is of a batch that is seen, of the shard and the document, and of a type that is asked for
+    abbrev pub counts : Event → Bool → Bool
+    counts e met = nat_le e.1.batch snapshot && (is_same e.0.shard shard && (is_eq (doc_key_cmp doc e.0.key) && (is_type_wanted types e.0.key.dtype && met)))
 
-  module _ (e : Event) (lawful : IsEvent e) (key : IsDocKey e.0.key) where
-    abbrev cell_says : Entry → Bool
-    cell_says n = says (slot_of n)
+    module _ (e : Event) (lawful : IsEvent e) (key : IsDocKey e.0.key) where
+      abbrev cell_says : Entry → Bool
+      cell_says n = says (slot_of n)
 
-    event_off : (c : EventCell) → CellRules c → cell_says (record { table = 0; key = event_key e c }) ≡ false
-    event_off c rules =
-        ap (λ b. is_in_span (shard_start shard) (shard_end shard) (code (event_key e c)) && b) (none_kept test types doc (value_at field names snapshot (code (event_key e c))) (event_says field names snapshot e c key lawful.most rules))
-        ∙ and_false (is_in_span (shard_start shard) (shard_end shard) (code (event_key e c)))
+      event_off : (c : EventCell) → CellRules c → cell_says (record { table = 0; key = event_key e c }) ≡ false
+      event_off c rules =
+          ap (λ b. is_in_span (shard_start shard) (shard_end shard) (code (event_key e c)) && b) (none_kept test types doc (value_at field names snapshot (code (event_key e c))) (event_says field names snapshot e c key lawful.most rules))
+          ∙ and_false (is_in_span (shard_start shard) (shard_end shard) (code (event_key e c)))
 
-    -- what a cell of the field index says
-    abbrev field_met : EventCell → List ℕ → Bool
-    field_met c v = is_same e.0.shard shard && ((is_same c.field field && (nat_le e.1.batch snapshot && sees c.vis names)) && (is_type_wanted types e.0.key.dtype && (test v && is_eq (doc_key_cmp doc e.0.key))))
+      -- what a cell of the field index says
+      abbrev field_met : EventCell → List ℕ → Bool
+      field_met c v = is_same e.0.shard shard && ((is_same c.field field && (nat_le e.1.batch snapshot && sees c.vis names)) && (is_type_wanted types e.0.key.dtype && (test v && is_eq (doc_key_cmp doc e.0.key))))
 
-    kept_where : (b : Bool) (v : List ℕ) → is_of_doc doc (passed_if test (kept_if None (Some types) (if b then Some (v, e.0.key) else None))) ≡ (b && (is_type_wanted types e.0.key.dtype && (test v && is_eq (doc_key_cmp doc e.0.key))))
-    kept_where true v = some_kept test types doc v e.0.key
-    kept_where false v = refl
+      kept_where : (b : Bool) (v : List ℕ) → is_of_doc doc (passed_if test (kept_if None (Some types) (if b then Some (v, e.0.key) else None))) ≡ (b && (is_type_wanted types e.0.key.dtype && (test v && is_eq (doc_key_cmp doc e.0.key))))
+      kept_where true v = some_kept test types doc v e.0.key
+      kept_where false v = refl
 
-    field_on : (c : EventCell) (v : List ℕ) → CellRules c → IsPlainText v → cell_says (record { table = 0; key = field_key e c v }) ≡ field_met c v
-    field_on c v rules plain =
-        (λ i. in_shard shard (field_key e c v) i && is_of_doc doc (passed_if test (kept_if None (Some types) (field_says field names snapshot e c v key lawful.most rules plain i))))
-        ∙ ap (λ b. is_same e.0.shard shard && b) (kept_where (is_same c.field field && (nat_le e.1.batch snapshot && sees c.vis names)) v)
+      field_on : (c : EventCell) (v : List ℕ) → CellRules c → IsPlainText v → cell_says (record { table = 0; key = field_key e c v }) ≡ field_met c v
+      field_on c v rules plain =
+          (λ i. in_shard shard (field_key e c v) i && is_of_doc doc (passed_if test (kept_if None (Some types) (field_says field names snapshot e c v key lawful.most rules plain i))))
+          ∙ ap (λ b. is_same e.0.shard shard && b) (kept_where (is_same c.field field && (nat_le e.1.batch snapshot && sees c.vis names)) v)
 
-    or_none : (a : Bool) → (a || false) ≡ a
-    or_none true = refl
-    or_none false = refl
+      or_none : (a : Bool) → (a || false) ≡ a
+      or_none true = refl
+      or_none false = refl
 
-    forward_on : (c : EventCell) (v : List ℕ) → CellRules c → IsPlainText v → (b : Bool) → list_any cell_says (if b then forward_entries e c v else []) ≡ (b && field_met c v)
-    forward_on c v rules plain true = or_none (cell_says (record { table = 0; key = field_key e c v })) ∙ field_on c v rules plain
-    forward_on c v rules plain false = refl
+      forward_on : (c : EventCell) (v : List ℕ) → CellRules c → IsPlainText v → (b : Bool) → list_any cell_says (if b then forward_entries e c v else []) ≡ (b && field_met c v)
+      forward_on c v rules plain true = or_none (cell_says (record { table = 0; key = field_key e c v })) ∙ field_on c v rules plain
+      forward_on c v rules plain false = refl
 
-    backward_off : (c : EventCell) (v : List ℕ) (b : Bool) → list_any cell_says (if b then backward_entries e c v else []) ≡ false
-    backward_off c v true = refl
-    backward_off c v false = refl
+      backward_off : (c : EventCell) (v : List ℕ) (b : Bool) → list_any cell_says (if b then backward_entries e c v else []) ≡ false
+      backward_off c v true = refl
+      backward_off c v false = refl
 
-    index_on : (rule : FieldRule) (c : EventCell) (v : List ℕ) → CellRules c → IsPlainText v → list_any cell_says (index_entries rule e c (Some v)) ≡ (rule.indexed && field_met c v)
-    index_on rule c v rules plain =
-        list_any-append cell_says (if rule.indexed then forward_entries e c v else []) (if rule.reversed then backward_entries e c v else [])
-        ∙ (λ i. forward_on c v rules plain rule.indexed i || backward_off c v rule.reversed i)
-        ∙ or_none (rule.indexed && field_met c v)
+      index_on : (rule : FieldRule) (c : EventCell) (v : List ℕ) → CellRules c → IsPlainText v → list_any cell_says (index_entries rule e c (Some v)) ≡ (rule.indexed && field_met c v)
+      index_on rule c v rules plain =
+          list_any-append cell_says (if rule.indexed then forward_entries e c v else []) (if rule.reversed then backward_entries e c v else [])
+          ∙ (λ i. forward_on c v rules plain rule.indexed i || backward_off c v rule.reversed i)
+          ∙ or_none (rule.indexed && field_met c v)
 
-    -- by a form of the value, where the world indexes the field
-    of_form : (rule : FieldRule) (c : EventCell) (o : Option (List ℕ)) → norm rule.kind c.raw ≡ o → CellRules c → rule.indexed ≡ true → is_same c.field field ≡ true
-        → list_any cell_says (index_entries rule e c o) ≡ counts e (sees c.vis names && (is_same c.field field && passes test o))
-    of_form rule c None form rules indexed same =
-        sym (ap (counts e) (ap (λ b. sees c.vis names && b) (and_false (is_same c.field field)) ∙ and_false (sees c.vis names))
-        ∙ none (nat_le e.1.batch snapshot) (is_same e.0.shard shard) (is_eq (doc_key_cmp doc e.0.key)) (is_type_wanted types e.0.key.dtype))
-      where
-        none : (a b c d : Bool) → (a && (b && (c && (d && false)))) ≡ false
-        none a b c d = ap (λ x. a && (b && (c && x))) (and_false d) ∙ ap (λ x. a && (b && x)) (and_false c) ∙ ap (λ x. a && x) (and_false b) ∙ and_false a
-    of_form rule c (Some v) form rules indexed same =
-        let plain = plain_form rule.kind c v rules form in
-        index_on rule c v rules plain
-        ∙ (λ i. indexed i && (is_same e.0.shard shard && ((same i && (nat_le e.1.batch snapshot && sees c.vis names)) && (is_type_wanted types e.0.key.dtype && (test v && is_eq (doc_key_cmp doc e.0.key))))))
-        ∙ shuffled (nat_le e.1.batch snapshot) (is_same e.0.shard shard) (sees c.vis names) (is_type_wanted types e.0.key.dtype) (test v) (is_eq (doc_key_cmp doc e.0.key))
-        ∙ (λ i. counts e (sees c.vis names && (sym same i && test v)))
+      -- by a form of the value, where the world indexes the field
+      of_form : (rule : FieldRule) (c : EventCell) (o : Option (List ℕ)) → norm rule.kind c.raw ≡ o → CellRules c → rule.indexed ≡ true → is_same c.field field ≡ true
+          → list_any cell_says (index_entries rule e c o) ≡ counts e (sees c.vis names && (is_same c.field field && passes test o))
+      of_form rule c None form rules indexed same =
+          sym (ap (counts e) (ap (λ b. sees c.vis names && b) (and_false (is_same c.field field)) ∙ and_false (sees c.vis names))
+          ∙ none (nat_le e.1.batch snapshot) (is_same e.0.shard shard) (is_eq (doc_key_cmp doc e.0.key)) (is_type_wanted types e.0.key.dtype))
+        where
+          none : (a b c d : Bool) → (a && (b && (c && (d && false)))) ≡ false
+          none a b c d = ap (λ x. a && (b && (c && x))) (and_false d) ∙ ap (λ x. a && (b && x)) (and_false c) ∙ ap (λ x. a && x) (and_false b) ∙ and_false a
+      of_form rule c (Some v) form rules indexed same =
+          let plain = plain_form rule.kind c v rules form in
+          index_on rule c v rules plain
+          ∙ (λ i. indexed i && (is_same e.0.shard shard && ((same i && (nat_le e.1.batch snapshot && sees c.vis names)) && (is_type_wanted types e.0.key.dtype && (test v && is_eq (doc_key_cmp doc e.0.key))))))
+          ∙ shuffled (nat_le e.1.batch snapshot) (is_same e.0.shard shard) (sees c.vis names) (is_type_wanted types e.0.key.dtype) (test v) (is_eq (doc_key_cmp doc e.0.key))
+          ∙ (λ i. counts e (sees c.vis names && (sym same i && test v)))
 
-    counts_none : (b : Bool) → b ≡ false → counts e b ≡ false
-    counts_none b h = ap (counts e) h ∙ none (nat_le e.1.batch snapshot) (is_same e.0.shard shard) (is_eq (doc_key_cmp doc e.0.key)) (is_type_wanted types e.0.key.dtype)
-      where
-        none : (a b c d : Bool) → (a && (b && (c && (d && false)))) ≡ false
-        none a b c d = ap (λ x. a && (b && (c && x))) (and_false d) ∙ ap (λ x. a && (b && x)) (and_false c) ∙ ap (λ x. a && x) (and_false b) ∙ and_false a
+      counts_none : (b : Bool) → b ≡ false → counts e b ≡ false
+      counts_none b h = ap (counts e) h ∙ none (nat_le e.1.batch snapshot) (is_same e.0.shard shard) (is_eq (doc_key_cmp doc e.0.key)) (is_type_wanted types e.0.key.dtype)
+        where
+          none : (a b c d : Bool) → (a && (b && (c && (d && false)))) ≡ false
+          none a b c d = ap (λ x. a && (b && (c && x))) (and_false d) ∙ ap (λ x. a && (b && x)) (and_false c) ∙ ap (λ x. a && x) (and_false b) ∙ and_false a
 
-    -- a cell of another field
-    off_field : (rule : FieldRule) (c : EventCell) (o : Option (List ℕ)) → norm rule.kind c.raw ≡ o → CellRules c → is_same c.field field ≡ false → list_any cell_says (index_entries rule e c o) ≡ false
-    off_field rule c None form rules other = refl
-    off_field rule c (Some v) form rules other =
-        index_on rule c v rules (plain_form rule.kind c v rules form)
-        ∙ (λ i. rule.indexed && (is_same e.0.shard shard && ((other i && (nat_le e.1.batch snapshot && sees c.vis names)) && (is_type_wanted types e.0.key.dtype && (test v && is_eq (doc_key_cmp doc e.0.key))))))
-        ∙ ap (λ x. rule.indexed && x) (and_false (is_same e.0.shard shard))
-        ∙ and_false rule.indexed
+      -- a cell of another field
+      off_field : (rule : FieldRule) (c : EventCell) (o : Option (List ℕ)) → norm rule.kind c.raw ≡ o → CellRules c → is_same c.field field ≡ false → list_any cell_says (index_entries rule e c o) ≡ false
+      off_field rule c None form rules other = refl
+      off_field rule c (Some v) form rules other =
+          index_on rule c v rules (plain_form rule.kind c v rules form)
+          ∙ (λ i. rule.indexed && (is_same e.0.shard shard && ((other i && (nat_le e.1.batch snapshot && sees c.vis names)) && (is_type_wanted types e.0.key.dtype && (test v && is_eq (doc_key_cmp doc e.0.key))))))
+          ∙ ap (λ x. rule.indexed && x) (and_false (is_same e.0.shard shard))
+          ∙ and_false rule.indexed
 
-    -- nothing is of batch 0
-    off_batch : (rule : FieldRule) (c : EventCell) (o : Option (List ℕ)) → norm rule.kind c.raw ≡ o → CellRules c → nat_le e.1.batch snapshot ≡ false → list_any cell_says (index_entries rule e c o) ≡ false
-    off_batch rule c None form rules none = refl
-    off_batch rule c (Some v) form rules none =
-        index_on rule c v rules (plain_form rule.kind c v rules form)
-        ∙ (λ i. rule.indexed && (is_same e.0.shard shard && ((is_same c.field field && (none i && sees c.vis names)) && (is_type_wanted types e.0.key.dtype && (test v && is_eq (doc_key_cmp doc e.0.key))))))
-        ∙ (λ i. rule.indexed && (is_same e.0.shard shard && (and_false (is_same c.field field) i && (is_type_wanted types e.0.key.dtype && (test v && is_eq (doc_key_cmp doc e.0.key))))))
-        ∙ ap (λ x. rule.indexed && x) (and_false (is_same e.0.shard shard))
-        ∙ and_false rule.indexed
+      -- nothing is of batch 0
+      off_batch : (rule : FieldRule) (c : EventCell) (o : Option (List ℕ)) → norm rule.kind c.raw ≡ o → CellRules c → nat_le e.1.batch snapshot ≡ false → list_any cell_says (index_entries rule e c o) ≡ false
+      off_batch rule c None form rules none = refl
+      off_batch rule c (Some v) form rules none =
+          index_on rule c v rules (plain_form rule.kind c v rules form)
+          ∙ (λ i. rule.indexed && (is_same e.0.shard shard && ((is_same c.field field && (none i && sees c.vis names)) && (is_type_wanted types e.0.key.dtype && (test v && is_eq (doc_key_cmp doc e.0.key))))))
+          ∙ (λ i. rule.indexed && (is_same e.0.shard shard && (and_false (is_same c.field field) i && (is_type_wanted types e.0.key.dtype && (test v && is_eq (doc_key_cmp doc e.0.key))))))
+          ∙ ap (λ x. rule.indexed && x) (and_false (is_same e.0.shard shard))
+          ∙ and_false rule.indexed
 
-    before_first : snapshot ≡ 0 → nat_le e.1.batch snapshot ≡ false
-    before_first z = grind (arith, nat_tests, z, lawful.first)
+      before_first : snapshot ≡ 0 → nat_le e.1.batch snapshot ≡ false
+      before_first z = grind (arith, nat_tests, z, lawful.first)
 
-    indexed_says : (c : EventCell) → CellRules c → list_any cell_says (index_entries (rule_of world c.field) e c (norm (rule_of world c.field).kind c.raw)) ≡ counts e (meets_leaf c)
-    indexed_says c rules = at (is_same c.field field) refl alike
-      where
-        rule : FieldRule
-        rule = rule_of world c.field
+      indexed_says : (c : EventCell) → CellRules c → list_any cell_says (index_entries (rule_of world c.field) e c (norm (rule_of world c.field).kind c.raw)) ≡ counts e (meets_leaf c)
+      indexed_says c rules = at (is_same c.field field) refl alike
+        where
+          rule : FieldRule
+          rule = rule_of world c.field
 
-        at : (b : Bool) → is_same c.field field ≡ b → (snapshot ≡ 0) ⊎ (((rule_of world field).indexed ≡ true) × ((rule_of world field).kind ≡ (rule_of dict field).kind))
-            → list_any cell_says (index_entries (rule_of world c.field) e c (norm (rule_of world c.field).kind c.raw)) ≡ counts e (meets_leaf c)
-        at false other h =
-            off_field (rule_of world c.field) c (norm (rule_of world c.field).kind c.raw) refl rules other
-            ∙ sym (counts_none (meets_leaf c) (ap (λ b. sees c.vis names && (b && passes test (norm (rule_of dict c.field).kind c.raw))) other ∙ and_false (sees c.vis names)))
-        at true same (inl z) =
-            off_batch (rule_of world c.field) c (norm (rule_of world c.field).kind c.raw) refl rules (before_first z)
-            ∙ sym (ap (λ b. b && (is_same e.0.shard shard && (is_eq (doc_key_cmp doc e.0.key) && (is_type_wanted types e.0.key.dtype && meets_leaf c)))) (before_first z))
-        at true same (inr h) =
-            let f = same_is c.field field same in
-            let indexed = ap (λ x. (rule_of world x).indexed) f ∙ h.0 in
-            let kind = ap (λ x. (rule_of world x).kind) f ∙ h.1 ∙ sym (ap (λ x. (rule_of dict x).kind) f) in
-            of_form (rule_of world c.field) c (norm (rule_of world c.field).kind c.raw) refl rules indexed same
-            ∙ ap (λ k. counts e (sees c.vis names && (is_same c.field field && passes test (norm k c.raw)))) kind
+          at : (b : Bool) → is_same c.field field ≡ b → (snapshot ≡ 0) ⊎ (((rule_of world field).indexed ≡ true) × ((rule_of world field).kind ≡ (rule_of dict field).kind))
+              → list_any cell_says (index_entries (rule_of world c.field) e c (norm (rule_of world c.field).kind c.raw)) ≡ counts e (meets_leaf c)
+          at false other h =
+              off_field (rule_of world c.field) c (norm (rule_of world c.field).kind c.raw) refl rules other
+              ∙ sym (counts_none (meets_leaf c) (ap (λ b. sees c.vis names && (b && passes test (norm (rule_of dict c.field).kind c.raw))) other ∙ and_false (sees c.vis names)))
+          at true same (inl z) =
+              off_batch (rule_of world c.field) c (norm (rule_of world c.field).kind c.raw) refl rules (before_first z)
+              ∙ sym (ap (λ b. b && (is_same e.0.shard shard && (is_eq (doc_key_cmp doc e.0.key) && (is_type_wanted types e.0.key.dtype && meets_leaf c)))) (before_first z))
+          at true same (inr h) =
+              let f = same_is c.field field same in
+              let indexed = ap (λ x. (rule_of world x).indexed) f ∙ h.0 in
+              let kind = ap (λ x. (rule_of world x).kind) f ∙ h.1 ∙ sym (ap (λ x. (rule_of dict x).kind) f) in
+              of_form (rule_of world c.field) c (norm (rule_of world c.field).kind c.raw) refl rules indexed same
+              ∙ ap (λ k. counts e (sees c.vis names && (is_same c.field field && passes test (norm k c.raw)))) kind
 
-    one_cell : (c : EventCell) → is_cell c ≡ true → list_any cell_says (cell_entries world e c) ≡ counts e (meets_leaf c)
-    one_cell c h =
-        let rules = cell_rules c h in
-        ap (λ b. b || list_any cell_says (index_entries (rule_of world c.field) e c (norm (rule_of world c.field).kind c.raw))) (event_off c rules)
-        ∙ indexed_says c rules
+      one_cell : (c : EventCell) → is_cell c ≡ true → list_any cell_says (cell_entries world e c) ≡ counts e (meets_leaf c)
+      one_cell c h =
+          let rules = cell_rules c h in
+          ap (λ b. b || list_any cell_says (index_entries (rule_of world c.field) e c (norm (rule_of world c.field).kind c.raw))) (event_off c rules)
+          ∙ indexed_says c rules
 
-  -- among the cells that an event gives
-  pub event_counts : (e : Event) → IsEvent e → list_any says (slots_of world e) ≡ counts e (list_any meets_leaf e.1.cells)
-  event_counts e lawful =
-      let rules : KeepsRules (record_of e) = rules_of (record_of e) lawful.rules.rules in
-      let key : IsDocKey e.0.key = record { dtype = rules.dtype; uid = lawful.uid } in
-      any_mapped says slot_of (entries_of world e)
-      ∙ any_flat (λ n. says (slot_of n)) (cell_entries world e) e.1.cells
-      ∙ any_alike_all (λ c. is_cell c ≡ true) _ _ (λ c h. one_cell e lawful key c h) e.1.cells (each_cell e.1.cells rules.cells)
-      ∙ any_and (nat_le e.1.batch snapshot) (λ c. is_same e.0.shard shard && (is_eq (doc_key_cmp doc e.0.key) && (is_type_wanted types e.0.key.dtype && meets_leaf c))) e.1.cells
-      ∙ ap (λ x. nat_le e.1.batch snapshot && x) (any_and (is_same e.0.shard shard) (λ c. is_eq (doc_key_cmp doc e.0.key) && (is_type_wanted types e.0.key.dtype && meets_leaf c)) e.1.cells
-      ∙ ap (λ x. is_same e.0.shard shard && x) (any_and (is_eq (doc_key_cmp doc e.0.key)) (λ c. is_type_wanted types e.0.key.dtype && meets_leaf c) e.1.cells
-      ∙ ap (λ x. is_eq (doc_key_cmp doc e.0.key) && x) (any_and (is_type_wanted types e.0.key.dtype) meets_leaf e.1.cells)))
+    -- among the cells that an event gives
+    pub event_counts : (e : Event) → IsEvent e → list_any says (slots_of world e) ≡ counts e (list_any meets_leaf e.1.cells)
+    event_counts e lawful =
+        let rules : KeepsRules (record_of e) = rules_of (record_of e) lawful.rules.rules in
+        let key : IsDocKey e.0.key = record { dtype = rules.dtype; uid = lawful.uid } in
+        any_mapped says slot_of (entries_of world e)
+        ∙ any_flat (λ n. says (slot_of n)) (cell_entries world e) e.1.cells
+        ∙ any_alike_all (λ c. is_cell c ≡ true) _ _ (λ c h. one_cell e lawful key c h) e.1.cells (each_cell e.1.cells rules.cells)
+        ∙ any_and (nat_le e.1.batch snapshot) (λ c. is_same e.0.shard shard && (is_eq (doc_key_cmp doc e.0.key) && (is_type_wanted types e.0.key.dtype && meets_leaf c))) e.1.cells
+        ∙ ap (λ x. nat_le e.1.batch snapshot && x) (any_and (is_same e.0.shard shard) (λ c. is_eq (doc_key_cmp doc e.0.key) && (is_type_wanted types e.0.key.dtype && meets_leaf c)) e.1.cells
+        ∙ ap (λ x. is_same e.0.shard shard && x) (any_and (is_eq (doc_key_cmp doc e.0.key)) (λ c. is_type_wanted types e.0.key.dtype && meets_leaf c) e.1.cells
+        ∙ ap (λ x. is_eq (doc_key_cmp doc e.0.key) && x) (any_and (is_type_wanted types e.0.key.dtype) meets_leaf e.1.cells)))

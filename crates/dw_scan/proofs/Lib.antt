@@ -14,3 +14,5 @@ pub mod WorldViews
 pub mod QueryParts
 pub mod LeafTrees
 pub mod TreeErrors
+pub mod WorldSeen
+pub mod TreeLists

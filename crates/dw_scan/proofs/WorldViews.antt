@@ -112,8 +112,8 @@ code_front : (p : Place) (k : Key) → k.row ≡ p.shard → k.family ≡ doc_te
 code_front p k r f =
     let tail = code_of (k.qualifier ∷ k.vis ∷ []) k.stamp in
     let spelled : part_code p.shard ++ (part_code (doc_text p.key) ++ tail) ≡ document_front p.shard (doc_text p.key) ++ 0 ∷ tail =
-        ap (λ xs. part_code p.shard ++ xs) (append_assoc (escaped (doc_text p.key)) (0 ∷ 0 ∷ []) tail ∙ sym (append_assoc (escaped (doc_text p.key)) (0 ∷ []) (0 ∷ tail)))
-        ∙ sym (append_assoc (part_code p.shard) (escaped (doc_text p.key) ++ 0 ∷ []) (0 ∷ tail)) in
+    ap (λ xs. part_code p.shard ++ xs) (append_assoc (escaped (doc_text p.key)) (0 ∷ 0 ∷ []) tail ∙ sym (append_assoc (escaped (doc_text p.key)) (0 ∷ []) (0 ∷ tail)))
+    ∙ sym (append_assoc (part_code p.shard) (escaped (doc_text p.key) ++ 0 ∷ []) (0 ∷ tail)) in
     ap (in_document p.shard p.key)
     (ap (λ row. part_code row ++ (part_code k.family ++ tail)) r ∙ ap (λ family. part_code p.shard ++ (part_code family ++ tail)) f ∙ spelled)
     ∙ within_front p.shard p.key tail

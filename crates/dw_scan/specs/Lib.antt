@@ -5,3 +5,4 @@ pub mod Stops
 pub mod Scanned
 pub mod Worlds
 pub mod Parts
+pub mod WorldAnswers

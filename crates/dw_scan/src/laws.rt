@@ -2,6 +2,7 @@
 
 ghost use Rattle.dw_scan.specs.Candidates.{TreesFindCandidates, AnswersAreCandidates};
 ghost use Rattle.dw_scan.specs.Worlds.{DocumentsAreViews, LeavesFindTheSeen, SeenAscend};
+ghost use Rattle.dw_scan.specs.WorldAnswers.{WorldsAreContents, AnswersAreSeen};
 
 /// The tree of an anchored query over the keys of the events of a shard finds its candidates, and nothing else.
 pub fn trees_find_candidates()
@@ -27,4 +28,15 @@ pub fn leaves_find_the_seen()
 /// The documents in a shard of a world's tables, as a reader sees them, are the views of the world's events.
 pub fn documents_are_views()
     ensures { DocumentsAreViews }
+{}
+
+/// The keys of a shard of a world's tables are a content of it.
+pub fn worlds_are_contents()
+    ensures { WorldsAreContents }
+{}
+
+/// The answer of a shard of a world's tables after a resume is what is seen of the world's events there that answers the
+/// ask and stands after the resume.
+pub fn answers_are_seen()
+    ensures { AnswersAreSeen }
 {}

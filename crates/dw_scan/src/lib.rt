@@ -15,8 +15,8 @@ pub use ask::{Ask, Batch, Resume};
 pub use dw_base::OutOfMemory;
 pub use gaps::Gaps;
 pub use laws::{
-    answers_are_candidates, documents_are_views, leaves_find_the_seen, seen_ascend,
-    trees_find_candidates,
+    answers_are_candidates, answers_are_seen, documents_are_views, leaves_find_the_seen,
+    seen_ascend, trees_find_candidates, worlds_are_contents,
 };
 pub use searching::search;
 
