@@ -16,3 +16,4 @@ pub mod LeafTrees
 pub mod TreeErrors
 pub mod WorldSeen
 pub mod TreeLists
+pub mod WorldBatches

@@ -26,7 +26,7 @@ use Rattle.dw_scan.specs.declared.ask.Ask.{Ask}
 use Rattle.dw_scan.specs.Parts.{LeafPart, part_where, part_step, parts_of, set_part, IsLeafOf, IsTreeOf, AreTreesOf}
 
 module _ (shard : List ℕ) where
-  parts_is : (y : NQuery-F NQuery) → parts_of shard (roll-NQuery y) ≡ part_step shard (map-NQuery NQuery (Shape LeafPart) (parts_of shard) y)
+  pub parts_is : (y : NQuery-F NQuery) → parts_of shard (roll-NQuery y) ≡ part_step shard (map-NQuery NQuery (Shape LeafPart) (parts_of shard) y)
   parts_is y = fold-roll-NQuery (Shape LeafPart) (part_step shard) y
 
   abbrev stepped : NQuery-F NQuery → LeafPart

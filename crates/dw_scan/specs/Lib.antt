@@ -6,3 +6,4 @@ pub mod Scanned
 pub mod Worlds
 pub mod Parts
 pub mod WorldAnswers
+pub mod Batches

@@ -7,6 +7,7 @@ mod building;
 mod gaps;
 mod laws;
 mod reading;
+mod scanning;
 mod searching;
 mod stop;
 mod walking;
@@ -18,6 +19,7 @@ pub use laws::{
     answers_are_candidates, answers_are_seen, documents_are_views, leaves_find_the_seen,
     seen_ascend, trees_find_candidates, worlds_are_contents,
 };
+pub use scanning::scan_batch;
 pub use searching::search;
 
 #[cfg(test)]
