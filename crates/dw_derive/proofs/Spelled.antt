@@ -1,6 +1,8 @@
 -- How bytes are spelled that are read as keys of table 0.
-use Rattle.std.proofs.Common.{◌≡◌, ℕ, zero, suc, ◌<◌, ◌==◌, Bool, true, false, cond, List, [], ◌∷◌, ◌++◌, Option, Some, None, length, refl, sym, ap, subst, ◌∙◌}
-use Rattle.std.specs.Prelude.{◌&&◌, Result, Ok, Err, nat_eq, slice_index, if◌then◌else◌}
+use Rattle.std.proofs.Common.{◌≡◌, ℕ, zero, suc, ◌<◌, ◌==◌, Bool, true, false, cond, List, [], ◌∷◌, ◌++◌, Option, Some, None, length, refl, sym, ap, subst, ◌∙◌, arith}
+use Rattle.std.specs.Prelude.{◌&&◌, not, Result, Ok, Err, nat_eq, slice_index, if◌then◌else◌}
+use Rattle.std.proofs.lemmas.Bool.Decides.{nat_tests}
+use Rattle.dw_event.specs.Names.{lacks_zero}
 use Rattle.std.specs.Option.{option_map, option_and_then}
 use Rattle.std.specs.Str.{is_utf8}
 use Rattle.std.specs.Cmp.Lexicographic.{pointwise, bytes_decides}
@@ -105,14 +107,31 @@ field_back family field h =
     let front : parts.0.0 ≡ field_index = (bytes_decides parts.0.0 field_index).0 (and_parts (pointwise nat_eq parts.0.0 field_index) (is_utf8 parts.0.1) only.0).0 in
     split_back family parts.0.0 parts.0.1 parts.1 ∙ ap (λ f. zero_joined f parts.0.1) front ∙ ap (zero_joined field_index) only.1
 
+-- what stands before the first byte 0 has none
+split_lacks : (q a b : List ℕ) → split_at_zero q ≡ Some (a, b) → lacks_zero a ≡ true
+split_lacks [] a b h = cc
+split_lacks (zero ∷ q) a b h = let e : ([] ≡ a) × (q ≡ b) = pair_parts h in ap lacks_zero (sym e.0)
+split_lacks (suc c ∷ q) a b h = at (split_lacks q) (split_at_zero q) refl h
+  where
+    above : (m : ℕ) → not (suc m == 0) ≡ true
+    above m = grind (arith, nat_tests)
+
+    at : ((x y : List ℕ) → split_at_zero q ≡ Some (x, y) → lacks_zero x ≡ true) → (o : Option (List ℕ × List ℕ)) → split_at_zero q ≡ o
+        → option_map {U = List ℕ × List ℕ} (λ (parts : List ℕ × List ℕ). (suc c ∷ parts.0, parts.1)) o ≡ Some (a, b) → lacks_zero a ≡ true
+    at lacks None r e = cc
+    at lacks (Some p) r e =
+        let f : (suc c ∷ p.0 ≡ a) × (p.1 ≡ b) = pair_parts e in
+        ap lacks_zero (sym f.0) ∙ ap (λ t. t && lacks_zero p.0) (above c) ∙ lacks p.0 p.1 r
+
 pub record IndexSpelled (k : Key) (r : IndexReading) : Type 0 where
   pub row : k.row ≡ r.shard
   pub family : k.family ≡ zero_joined field_index r.field
   pub qualifier : k.qualifier ≡ zero_joined r.value (doc_text r.doc)
+  pub value : lacks_zero r.value ≡ true
   pub doc : IsDocKey r.doc
 
-index_parts_back : (k : Key) (field : List ℕ) (parts : List ℕ × List ℕ) (r : IndexReading) → k.family ≡ zero_joined field_index field → k.qualifier ≡ zero_joined parts.0 parts.1 → index_parts k field parts ≡ Some r → IndexSpelled k r
-index_parts_back k field parts r family qualifier h = at (is_utf8 parts.0) h
+index_parts_back : (k : Key) (field : List ℕ) (parts : List ℕ × List ℕ) (r : IndexReading) → k.family ≡ zero_joined field_index field → k.qualifier ≡ zero_joined parts.0 parts.1 → lacks_zero parts.0 ≡ true → index_parts k field parts ≡ Some r → IndexSpelled k r
+index_parts_back k field parts r family qualifier lacks h = at (is_utf8 parts.0) h
   where
     at : (b : Bool) → (if b then option_map (λ doc. record { shard = k.row; field = field; value = parts.0; doc = doc }) (doc_from parts.1) else None) ≡ Some r → IndexSpelled k r
     at true e =
@@ -120,7 +139,7 @@ index_parts_back k field parts r family qualifier h = at (is_utf8 parts.0) h
         let read = doc_back parts.1 doc.0 doc.1 in
         let made : IndexReading = record { shard = k.row; field = field; value = parts.0; doc = doc.0 } in
         let same : made ≡ r = doc.2 in
-        let whole : IndexSpelled k made = record { row = refl; family = family; qualifier = qualifier ∙ ap (zero_joined parts.0) read.0; doc = read.1 } in
+        let whole : IndexSpelled k made = record { row = refl; family = family; qualifier = qualifier ∙ ap (zero_joined parts.0) read.0; value = lacks; doc = read.1 } in
         subst (IndexSpelled k) same whole
     at false e = cc
 
@@ -128,7 +147,7 @@ pub index_spelled : (k : Key) (r : IndexReading) → index_reading k ≡ Some r 
 index_spelled k r h =
     let field = and_then_some _ (field_of_family k.family) r h in
     let parts = and_then_some (index_parts k field.0) (split_at_zero k.qualifier) r field.2 in
-    index_parts_back k field.0 parts.0 r (field_back k.family field.0 field.1) (split_back k.qualifier parts.0.0 parts.0.1 parts.1) parts.2
+    index_parts_back k field.0 parts.0 r (field_back k.family field.0 field.1) (split_back k.qualifier parts.0.0 parts.0.1 parts.1) (split_lacks k.qualifier parts.0.0 parts.0.1 parts.1) parts.2
 
 -- ---- cells of events
 

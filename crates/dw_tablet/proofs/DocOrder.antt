@@ -75,7 +75,7 @@ digits_order (b ∷ bs) (c ∷ cs) h k e =
 -- ---- a text, a byte 0 and another
 
 -- a text without a byte 0 decides before what follows it
-zero_order : (p q x y : List ℕ) → lacks_zero p ≡ true → lacks_zero q ≡ true → slice_cmp nat_cmp (zero_joined p x) (zero_joined q y) ≡ ordering_then (slice_cmp nat_cmp p q) (slice_cmp nat_cmp x y)
+pub zero_order : (p q x y : List ℕ) → lacks_zero p ≡ true → lacks_zero q ≡ true → slice_cmp nat_cmp (zero_joined p x) (zero_joined q y) ≡ ordering_then (slice_cmp nat_cmp p q) (slice_cmp nat_cmp x y)
 zero_order [] [] x y h k = refl
 zero_order [] (zero ∷ q) x y h k = cc k
 zero_order [] (suc b ∷ q) x y h k = rw (below 0 (suc b) (omega arith)) refl

@@ -14,6 +14,7 @@ use Rattle.dw_key.proofs.Escapes.{part_code-then, slice_cmp-parts}
 use Rattle.dw_norm.proofs.Orders.{below as less_when, above as greater_when, ordering_then-assoc}
 use Rattle.dw_vis.specs.Test.{is_vis}
 use Rattle.dw_vis.specs.Sight.{sees}
+use Rattle.dw_event.specs.Names.{lacks_zero}
 use Rattle.dw_derive.specs.Entries.{zero_joined, doc_text, field_index}
 use Rattle.dw_derive.specs.Decoded.{key_from}
 use Rattle.dw_derive.specs.Readers.{EventReading, IndexReading, event_reading, index_reading}
@@ -33,6 +34,7 @@ pub record IndexKey (field key : List ℕ) (v : Value) : Type 0 where
   pub row : List ℕ
   pub rest : List ℕ
   pub is : key ≡ part_code row ++ (part_code (zero_joined field_index field) ++ (part_code (zero_joined v.0 (doc_text v.1)) ++ rest))
+  pub value : lacks_zero v.0 ≡ true
   pub doc : IsDocKey v.1
 
 none_some : {A : Type 0} (v : A) → None ≡ Some v → ⊥
@@ -48,6 +50,7 @@ spelled field key k r v h read f value doc =
       is = bytes.1
           ∙ (λ i. part_code k.row ++ (part_code (parts.family i) ++ (part_code (parts.qualifier i) ++ bytes.0)))
           ∙ (λ i. part_code k.row ++ (part_code (zero_joined field_index (f i)) ++ (part_code (zero_joined (value i) (doc_text (doc i))) ++ bytes.0)));
+      value = ap lacks_zero (sym value) ∙ parts.value;
       doc = subst IsDocKey doc parts.doc;
     }
 
@@ -126,6 +129,7 @@ field_then shard field x =
 pub record ValueKey (shard field key : List ℕ) (v : Value) : Type 0 where
   pub rest : List ℕ
   pub is : key ≡ field_start shard field ++ (escaped v.0 ++ (0 ∷ 255 ∷ (escaped (doc_text v.1) ++ (0 ∷ 0 ∷ rest))))
+  pub value : lacks_zero v.0 ≡ true
   pub doc : IsDocKey v.1
 
 pub value_key : (shard field key : List ℕ) (v : Value) → IndexKey field key v → below key (shard_start shard) ≡ false → below key (shard_end shard) ≡ true → ValueKey shard field key v
@@ -138,5 +142,6 @@ value_key shard field key v k low high =
           ∙ ap (λ r. part_code r ++ more) row
           ∙ sym (field_then shard field (part_code (zero_joined v.0 (doc_text v.1)) ++ k.rest))
           ∙ ap (λ l. field_start shard field ++ l) (part_code-then (zero_joined v.0 (doc_text v.1)) k.rest ∙ doc_escaped v.0 (doc_text v.1) (0 ∷ 0 ∷ k.rest));
+      value = k.value;
       doc = k.doc;
     }

@@ -22,3 +22,4 @@ pub mod EqualPlaces
 pub mod LeastDocs
 pub mod Equals
 pub mod Begun
+pub mod Standing

@@ -23,7 +23,7 @@ pub field_long : (shard field : List ℕ) → below (field_start shard field) (f
 field_long shard field = under (field_front shard field) []
 
 -- behind the front of a field
-in_field : (shard field more : List ℕ) → below (field_start shard field ++ more) (field_end shard field) ≡ true
+pub in_field : (shard field more : List ℕ) → below (field_start shard field ++ more) (field_end shard field) ≡ true
 in_field shard field more = ap (λ p. below p (field_end shard field)) (joined_on (field_front shard field) (0 ∷ []) more) ∙ under (field_front shard field) more
 
 pub bound_in_field : (shard field value : List ℕ) (bound : Bound) → below (bound_place shard field value bound) (field_end shard field) ≡ true

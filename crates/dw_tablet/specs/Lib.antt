@@ -5,6 +5,7 @@ pub mod Values
 pub mod Cursors
 pub mod Walks
 pub mod EqualWalks
+pub mod Orders
 pub mod Fronts
 pub mod FrontWalks
 pub mod Documents

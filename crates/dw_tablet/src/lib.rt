@@ -23,7 +23,10 @@ pub use cursor::{Cursor, CursorTop};
 pub use document::Doc;
 pub use dw_base::OutOfMemory;
 pub use field_values::{FieldValues, LeafError};
-pub use laws::{equal_walks_are_ordered, same_between, values_stand_in_fronts};
+pub use laws::{
+    cells_stand_in_documents, equal_walks_are_ordered, same_between, values_stand_in_fields,
+    values_stand_in_fronts,
+};
 pub use said::{EventSaid, IndexSaid, Said};
 pub use span::Span;
 pub use steps::Steps;
