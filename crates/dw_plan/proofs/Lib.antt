@@ -20,3 +20,4 @@ pub mod NormTexts
 pub mod EventShards
 pub mod Answering
 pub mod Others
+pub mod Ruled

@@ -1,5 +1,5 @@
 -- What holds of all hit shards.
-use Rattle.std.specs.Prelude.{◌≡◌, ◌≢◌, ◌⊎◌, ◌&&◌, ◌||◌, not, nat_eq, ℕ, Bool, true, List, ◌++◌, take, filter, map as list_map}
+use Rattle.std.specs.Prelude.{◌≡◌, ◌≢◌, ◌⊎◌, ◌&&◌, ◌||◌, not, nat_eq, ℕ, Bool, true, List, Some, ◌++◌, take, filter, map as list_map}
 use Rattle.std.specs.List.{list_all, starts_with, ends_with, AllByRecursion}
 use Rattle.std.specs.Ordering.{nat_cmp, is_le}
 use Rattle.std.specs.Cmp.Lexicographic.{slice_cmp}
@@ -17,6 +17,8 @@ use Rattle.dw_derive.specs.Lawful.{IsWorld}
 use Rattle.dw_nest.specs.Kleene.{swapped}
 use Rattle.dw_nest.specs.declared.truth.Truth.{Truth}
 use Rattle.dw_nest.specs.declared.truth.Truth.TheVariants.{Unknown}
+use Rattle.dw_jexl.specs.declared.query.Query.{Query}
+use Rattle.dw_eval.specs.Bound.{bound}
 use Rattle.dw_eval.specs.Kleene.{least, greatest}
 use Rattle.dw_eval.specs.Leaves.{is_above, is_below}
 use Rattle.dw_eval.specs.Answer.{answer_of}
@@ -62,6 +64,10 @@ ruled_step dict (Or children) = list_all (λ b. b) children
 -- each leaf has the rule that the dictionary gives to its field
 abbrev pub is_ruled : Dictionary → NQuery → Bool
 is_ruled dict = fold-NQuery Bool (ruled_step dict)
+
+-- a query that is bound by a dictionary has its rules
+abbrev pub BoundAreRuled : Type 0
+BoundAreRuled = (dict : Dictionary) (query : Query) (q : NQuery) → bound dict query ≡ Some q → is_ruled dict q ≡ true
 
 -- an anchored query with the rules of its own dictionary, each of which the world's rule widens where the query sees a batch
 pub record StandsFor (w : World) (q : OpenQuery) : Type 0 where

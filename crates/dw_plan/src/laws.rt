@@ -1,7 +1,7 @@
 //! What holds of all anchored queries. The functions do nothing: their contracts are laws.
 
 ghost use Rattle.dw_plan.specs.Anchored.{AnchorsLead};
-ghost use Rattle.dw_plan.specs.PlanLaws.{AnswersAreHit, NeighboursJoin, OtherTableAddsNothing};
+ghost use Rattle.dw_plan.specs.PlanLaws.{AnswersAreHit, BoundAreRuled, NeighboursJoin, OtherTableAddsNothing};
 
 /// Values that satisfy an anchored query meet one of its anchors, so that no event without a value in an index
 /// answers it.
@@ -23,4 +23,9 @@ pub fn answers_are_hit()
 /// For the tables of a world, the cells of the index that does not lead to a leaf change no plan.
 pub fn other_table_adds_nothing()
     ensures { OtherTableAddsNothing }
+{}
+
+/// A query that is bound by a dictionary has its rules.
+pub fn bound_are_ruled()
+    ensures { BoundAreRuled }
 {}

@@ -13,7 +13,9 @@ mod wanted;
 
 pub use anchors::anchored;
 pub use dw_base::OutOfMemory;
-pub use laws::{anchors_lead, answers_are_hit, neighbours_join, other_table_adds_nothing};
+pub use laws::{
+    anchors_lead, answers_are_hit, bound_are_ruled, neighbours_join, other_table_adds_nothing,
+};
 pub use planning::shards;
 
 #[cfg(test)]
