@@ -115,9 +115,11 @@ module _ (tablet : Held) (ask : Ask) where
       let test : (λ (form : List ℕ). is_same form value) ≡ (λ form. pointwise nat_eq form e.value.now) = sym (λ i form. same_texts form value i) ∙ sym (λ i form. pointwise nat_eq form (v i)) in
       subst (λ x. Alike (IsLeafOf tablet ask) x (leaf part)) (sym (shape_leaf (Equal e)))
       (record {
-        stands = λ content all agrees docs.
-            (content, subst (λ h. Agrees h content) (sym t) agrees,
-            subst (λ (m : List ℕ × ((List ℕ → Bool) × (List (List ℕ) × (ℕ × Types)))). AreLeafDocs m.0 m.1.0 m.1.1.0 m.1.1.1.0 m.1.1.1.1 content all) (λ i. (sym f i, (test i, (sym n i, (sym s i, sym y i))))) docs);
+        stands = λ content all agrees docs. (
+          content,
+          subst (λ h. Agrees h content) (sym t) agrees,
+          subst (λ (m : List ℕ × ((List ℕ → Bool) × (List (List ℕ) × (ℕ × Types)))). AreLeafDocs m.0 m.1.0 m.1.1.0 m.1.1.1.0 m.1.1.1.1 content all) (λ i. (sym f i, (test i, (sym n i, (sym s i, sym y i))))) docs,
+        );
         lacks = λ place h. lacked place (subst (λ (m : List (List ℕ)). LacksPlace m place) (λ i. made_of (t i) (f i) (v i)) h);
       })
     where

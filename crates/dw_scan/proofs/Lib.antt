@@ -10,6 +10,7 @@ pub mod ShardOrder
 pub mod FieldCells
 pub mod WorldLeaves
 pub mod Sharded
+pub mod OneList
 pub mod WorldViews
 pub mod QueryParts
 pub mod LeafTrees

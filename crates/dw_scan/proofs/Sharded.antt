@@ -1,12 +1,12 @@
 -- What a test finds in the content of a shard of a world, cell by cell of its events.
-use Rattle.std.proofs.Common.{◌≡◌, ◌<◌, ◌^◌, ◌||◌, ◌&&◌, ◌==◌, ◌++◌, ℕ, zero, suc, Bool, true, false, not, nat_eq, nat_le, cond, List, [], ◌∷◌, map, refl, sym, ap, subst, ◌∙◌, append_assoc}
+use Rattle.std.proofs.Common.{◌≡◌, ◌||◌, ◌&&◌, ◌==◌, ◌++◌, ℕ, Bool, true, false, nat_eq, cond, List, [], ◌∷◌, map, refl, sym, ap, subst, ◌∙◌, append_assoc}
 use Rattle.std.specs.Prelude.{Option, Some, None}
 use Rattle.std.specs.Option.{option_map_or}
 use Rattle.std.specs.List.{list_any, list_all, filter, starts_with, AllByRecursion}
 use Rattle.std.specs.List.Sorted.{IsStrictlySortedBy}
 use Rattle.std.specs.Map.{lookup, keys_of}
 use Rattle.std.specs.BTreeMap.{is_at}
-use Rattle.std.specs.FinMap.{keys, entries}
+use Rattle.std.specs.FinMap.{entries}
 use Rattle.std.specs.Ordering.{is_eq}
 use Rattle.std.specs.declared.cmp.Ordering.{Ordering}
 use Rattle.std.specs.declared.cmp.Ordering.TheVariants.{Less, Equal, Greater}
@@ -24,13 +24,13 @@ use Rattle.dw_event.specs.Places.{place_cmp}
 use Rattle.dw_event.specs.Records.{is_cell}
 use Rattle.dw_event.specs.Take.{Event}
 use Rattle.dw_outside.specs.declared.slot.Slot.{Slot}
-use Rattle.dw_outside.specs.Tables.{Tables, is_in_span, span_of}
+use Rattle.dw_outside.specs.Tables.{is_in_span, span_of}
 use Rattle.dw_outside.proofs.Spanning.{prefix_span}
 use Rattle.dw_derive.specs.Entries.{event_key, field_key, forward_entries, backward_entries, index_entries, cell_entries, entries_of, slot_of, slots_of}
 use Rattle.dw_derive.specs.ReaderLaws.{IsDocKey}
 use Rattle.dw_derive.specs.World.{World}
 use Rattle.dw_derive.specs.Tables.{tables}
-use Rattle.dw_derive.specs.Lawful.{record_of, IsEvent, HasEvents}
+use Rattle.dw_derive.specs.Lawful.{record_of, IsEvent}
 use Rattle.dw_derive.proofs.Lists.{any_mapped, any_alike, any_flat}
 use Rattle.dw_derive.proofs.Sets.{any_filtered}
 use Rattle.dw_derive.proofs.Shards.{left, right, KeepsRules, rules_of}

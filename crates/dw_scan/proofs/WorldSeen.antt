@@ -1,20 +1,19 @@
 -- What is seen of a world's events in one shard.
 use Rattle.std.proofs.Common.{◌≡◌, ◌&&◌, ℕ, Bool, true, false, not, nat_le, cond, List, [], ◌∷◌, map, refl, sym, ap, subst, ◌∙◌}
-use Rattle.std.specs.Prelude.{Some, IsTrue}
+use Rattle.std.specs.Prelude.{Some}
 use Rattle.std.specs.List.{filter, AllByRecursion}
 use Rattle.std.specs.List.Sorted.{IsStrictlySortedBy}
 use Rattle.std.specs.Map.{lookup}
 use Rattle.std.specs.Map as placed
 use Rattle.std.specs.BTreeMap.{is_at}
-use Rattle.std.specs.Ordering.{nat_cmp, is_eq, is_lt, ordering_then, ordering_reverse}
-use Rattle.std.specs.Cmp.Lexicographic.{slice_cmp, nat_list_cmp_total}
-use Rattle.std.specs.declared.cmp.Ordering.TheVariants.{Less, Equal}
+use Rattle.std.specs.Ordering.{nat_cmp, is_eq, ordering_reverse}
+use Rattle.std.specs.Cmp.Lexicographic.{slice_cmp}
+use Rattle.std.specs.declared.cmp.Ordering.TheVariants.{Less}
 use Rattle.std.proofs.lemmas.Cmp.{tied_itself}
 use Rattle.std.proofs.lemmas.Map.Keys.{sorted_head, sorted_tail}
 use Rattle.std.proofs.lemmas.Map.Lookups.{exact_bytes}
 use Rattle.std.proofs.lemmas.Bool.{and_parts}
 use Rattle.dw_key.specs.declared.doc_key.DocKey.{DocKey}
-use Rattle.dw_key.specs.DocKeys.{doc_key_cmp}
 use Rattle.dw_event.specs.Places.{place_cmp}
 use Rattle.dw_event.specs.Seen.{shown_of, is_seen, seen}
 use Rattle.dw_event.specs.Take.{Event, held_at}
@@ -24,7 +23,7 @@ use Rattle.dw_event.specs.Wanted.{is_type_wanted}
 use Rattle.dw_event.specs.declared.records.Place.{Place}
 use Rattle.dw_event.specs.declared.reports.Shown.{Shown}
 use Rattle.dw_nest.specs.declared.bound.Bound.{Bound}
-use Rattle.dw_nest.specs.Bounds.{Ascends, is_before, meets, rest}
+use Rattle.dw_nest.specs.Bounds.{meets, rest}
 use Rattle.dw_outside.specs.declared.cell.Cell.{Cell}
 use Rattle.dw_outside.specs.Tables.{cell_pair, span_of}
 use Rattle.dw_outside.proofs.CellMaps.{tied}

@@ -1,6 +1,6 @@
 -- The documents of a world's shard, as a reader sees them, are the views of its events.
-use Rattle.std.proofs.Common.{◌≡◌, ◌<◌, ◌^◌, ◌||◌, ◌&&◌, ◌==◌, ◌++◌, ℕ, Bool, true, false, not, nat_le, cond, List, [], ◌∷◌, map, refl, sym, ap, ◌∙◌, append_assoc}
-use Rattle.std.specs.Prelude.{Option, Some, None, filter_map}
+use Rattle.std.proofs.Common.{◌≡◌, ◌<◌, ◌^◌, ◌||◌, ◌&&◌, ◌++◌, ℕ, Bool, true, false, not, nat_le, cond, List, [], ◌∷◌, refl, sym, ap, ◌∙◌, append_assoc}
+use Rattle.std.specs.Prelude.{Option, Some, None}
 use Rattle.std.specs.Option.{option_map_or}
 use Rattle.std.specs.List.{list_any, filter}
 use Rattle.std.specs.List.Sorted.{IsStrictlySortedBy}
@@ -16,7 +16,7 @@ use Rattle.dw_key.specs.KeyCode.{escaped, part_code, code_of, code}
 use Rattle.dw_vis.specs.Sight.{sees}
 use Rattle.dw_vis.specs.Test.{is_vis}
 use Rattle.dw_norm.specs.Normal.{norm}
-use Rattle.dw_dict.specs.Dictionary.{Dictionary, rule_of}
+use Rattle.dw_dict.specs.Dictionary.{rule_of}
 use Rattle.dw_dict.specs.declared.rule.FieldRule.{FieldRule}
 use Rattle.dw_nest.proofs.Order.{total, exact}
 use Rattle.dw_event.specs.declared.cells.EventCell.{EventCell}
@@ -32,8 +32,8 @@ use Rattle.dw_base.specs.FieldNames.{is_folded_name}
 use Rattle.std.specs.Str.{is_utf8}
 use Rattle.dw_outside.proofs.CellMaps.{tied}
 use Rattle.dw_derive.specs.Entries.{doc_text, event_key, field_key}
-use Rattle.dw_derive.specs.Readers.{IndexReading, EventReading, index_reading}
-use Rattle.dw_derive.specs.ReaderLaws.{IsDocKey, IsPlainText}
+use Rattle.dw_derive.specs.Readers.{IndexReading, index_reading}
+use Rattle.dw_derive.specs.ReaderLaws.{IsDocKey}
 use Rattle.dw_derive.specs.World.{World}
 use Rattle.dw_derive.specs.Lawful.{IsEvent, HasEvents}
 use Rattle.dw_derive.proofs.Decoding.{key_of_code}
@@ -43,16 +43,15 @@ use Rattle.dw_derive.proofs.Reading.{exact_places, field_is_plain}
 use Rattle.dw_derive.proofs.Rereading.{event_keys}
 use Rattle.dw_derive.proofs.Sets.{any_filtered, any_filter_map, any_set, set_ascends, same_sorted}
 use Rattle.dw_derive.proofs.Shards.{left, right}
-use Rattle.dw_tablet.specs.declared.said.Said.{Said}
-use Rattle.dw_tablet.specs.declared.said.Said.TheVariants.{OfEvent, OfIndex, Nothing}
-use Rattle.dw_tablet.specs.Said.{said_of, visible_said, key_said, event_said, index_said}
+use Rattle.dw_tablet.specs.declared.said.Said.TheVariants.{OfEvent, Nothing}
+use Rattle.dw_tablet.specs.Said.{said_of, key_said, event_said, index_said}
 use Rattle.dw_tablet.specs.Places.{below, between}
 use Rattle.dw_tablet.specs.Positions.{document_front}
-use Rattle.dw_tablet.specs.Documents.{document_start, document_end, cell_if, cell_at, cells_of, view_in}
+use Rattle.dw_tablet.specs.Documents.{document_start, document_end, cell_if, cell_at, cells_of}
 use Rattle.dw_tablet.proofs.Reading.{key_says}
 use Rattle.dw_tablet.proofs.Shards.{same_front}
 use Rattle.dw_scan.specs.Worlds.{content_of, view_held, DocumentsAreViews}
-use Rattle.dw_scan.proofs.Sharded.{and_any, alike_where, in_shard, row_within, within_row, at_event_cell, at_index, at_index_cell, found_in, at_cell, of_event, cells_of_event, doc_of_event, found_at}
+use Rattle.dw_scan.proofs.Sharded.{and_any, alike_where, in_shard, row_within, within_row, at_event_cell, at_index, found_in, at_cell, of_event, cells_of_event, doc_of_event, found_at}
 
 pairs_total : IsTotalOrder pair_cmp
 pairs_total = then_total (on_total (λ (p : Pair). p.field) nat_list_cmp_total) (on_total (λ (p : Pair). p.raw) nat_list_cmp_total)

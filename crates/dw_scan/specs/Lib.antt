@@ -1,5 +1,6 @@
 pub mod Trees
 pub mod Candidates
+pub mod CandidateLists
 pub mod Answers
 pub mod Stops
 pub mod Scanned

@@ -41,14 +41,7 @@ fn set_leaf<'t>(
     ensures ok { IfOk result (λ t. Alike (IsLeafOf tablet.now ask.now) (shape t) (leaf (set_part tablet.now.shard query.now))) }
     ensures err { IfErr result (IsSetError tablet.now query.now true) }
 {
-    let set = SetLeaf::new(
-        alloc,
-        tablet,
-        query,
-        &ask.types,
-        &ask.auths,
-        ask.snapshot,
-    )?;
+    let set = SetLeaf::new(alloc, tablet, query, &ask.types, &ask.auths, ask.snapshot)?;
     Ok(Tree::Leaf(Leaf::Set(set)))
 }
 

@@ -1,12 +1,18 @@
 //! What holds of all queries and the events of a shard. The functions do nothing: their contracts are laws.
 
 ghost use Rattle.dw_scan.specs.Candidates.{TreesFindCandidates, AnswersAreCandidates};
+ghost use Rattle.dw_scan.specs.CandidateLists.{CandidatesAreOneList};
 ghost use Rattle.dw_scan.specs.Worlds.{DocumentsAreViews, LeavesFindTheSeen, SeenAscend};
 ghost use Rattle.dw_scan.specs.WorldAnswers.{WorldsAreContents, AnswersAreSeen};
 
 /// The tree of an anchored query over the keys of the events of a shard finds its candidates, and nothing else.
 pub fn trees_find_candidates()
     ensures { TreesFindCandidates }
+{}
+
+/// A tree that can be enumerated has one list of candidates, for any lists that its leaves stand for, and no other.
+pub fn candidates_are_one_list()
+    ensures { CandidatesAreOneList }
 {}
 
 /// What satisfies a query is a candidate.

@@ -16,8 +16,8 @@ pub use ask::{Ask, Batch, Resume};
 pub use dw_base::OutOfMemory;
 pub use gaps::Gaps;
 pub use laws::{
-    answers_are_candidates, answers_are_seen, documents_are_views, leaves_find_the_seen,
-    seen_ascend, trees_find_candidates, worlds_are_contents,
+    answers_are_candidates, answers_are_seen, candidates_are_one_list, documents_are_views,
+    leaves_find_the_seen, seen_ascend, trees_find_candidates, worlds_are_contents,
 };
 pub use scanning::scan_batch;
 pub use searching::search;
