@@ -25,4 +25,6 @@ pub use searching::search;
 #[cfg(test)]
 mod partly_known_keys;
 #[cfg(test)]
+mod shard_tests;
+#[cfg(test)]
 mod tests;

@@ -33,14 +33,14 @@ const CELLS: [(u8, &str, &str, &str); 9] = [
     (6, "A", "1", ""),
 ];
 
-fn key(number: u8) -> Result<DocKey, Fail> {
+pub(crate) fn key(number: u8) -> Result<DocKey, Fail> {
     let dtype = DType::of(b"lab").ok_or("no type")?;
     let mut uid = [0u8; 32];
     uid[31] = number;
     Ok(DocKey { dtype, uid })
 }
 
-fn cell(alloc: Global, field: &str, raw: &str, vis: &str) -> Result<EventCell, Fail> {
+pub(crate) fn cell(alloc: Global, field: &str, raw: &str, vis: &str) -> Result<EventCell, Fail> {
     let Ok(vis) = Vis::parse(alloc, vis.as_bytes()) else {
         return Err(Fail::from("no visibility"));
     };
@@ -68,8 +68,13 @@ fn event(alloc: Global, number: u8) -> Result<Event, Fail> {
 }
 
 /// Stores the cells of an event in table 0.
-fn store(alloc: Global, keeper: &mut MemKeeper, event: &Event) -> Result<(), Fail> {
-    for entry in entries(alloc, event, &Dict::new(alloc))? {
+pub(crate) fn store(
+    alloc: Global,
+    keeper: &mut MemKeeper,
+    event: &Event,
+    dict: &Dict,
+) -> Result<(), Fail> {
+    for entry in entries(alloc, event, dict)? {
         if entry.table == 0 {
             let slot = entry.slot(alloc)?;
             let put = Put {
@@ -89,13 +94,23 @@ fn store(alloc: Global, keeper: &mut MemKeeper, event: &Event) -> Result<(), Fai
 fn keeper_of(alloc: Global) -> Result<MemKeeper, Fail> {
     let mut keeper = MemKeeper::new(alloc, Vec::new(alloc));
     for number in 1..7 {
-        store(alloc, &mut keeper, &event(alloc, number)?)?;
+        store(
+            alloc,
+            &mut keeper,
+            &event(alloc, number)?,
+            &Dict::new(alloc),
+        )?;
     }
     Ok(keeper)
 }
 
 /// Loads a run of cells from a place on.
-fn load(keeper: &mut MemKeeper, tablet: &mut Tablet, from: &[u8], limit: u32) -> Result<(), Fail> {
+pub(crate) fn load(
+    keeper: &mut MemKeeper,
+    tablet: &mut Tablet,
+    from: &[u8],
+    limit: u32,
+) -> Result<(), Fail> {
     if !from.cmp(tablet.end()).is_lt() {
         return Err(Fail::from("past the shard"));
     }
