@@ -39,7 +39,7 @@ held_some p h (r ∷ rs) = at (λ k. held_some p k rs) (is_of p r)
     at next false = next h
 
 -- the set of the cells of the place, and the first batch
-held_none : (p : Place) (rs : List CellReading) → held_after p None rs ≡ cond (list_any (is_of p) rs) (Some (event_at rs p).1) None
+pub held_none : (p : Place) (rs : List CellReading) → held_after p None rs ≡ cond (list_any (is_of p) rs) (Some (event_at rs p).1) None
 held_none p [] = refl
 held_none p (r ∷ rs) = at (is_of p r) (held_none p rs)
   where
@@ -55,7 +55,7 @@ find_at : (p : Place) (es : List Event) → lookup (is_at (place_cmp p)) es ≡ 
 find_at p [] = refl
 find_at p (e ∷ es) = ap (cond (eq_by_cmp place_cmp p e.0) (Some e.1)) (find_at p es)
 
-held_of_events : (p : Place) (rs : List CellReading) → held_at (events_of rs) p ≡ cond (list_any (is_of p) rs) (Some (event_at rs p).1) None
+pub held_of_events : (p : Place) (rs : List CellReading) → held_at (events_of rs) p ≡ cond (list_any (is_of p) rs) (Some (event_at rs p).1) None
 held_of_events p rs =
     find_at p (events_of rs)
     ∙ find_of exact_places (λ q. (event_at rs q).1) (set_of place_cmp (map (λ r. r.place) rs)) p
@@ -80,7 +80,7 @@ slot e = e.0
 abbrev in_first : Slot × List ℕ → Bool
 in_first e = (e.0.table == 0) && is_in_span [] [] e.0.key
 
-said_codes : (es : List (Slot × List ℕ)) → filter_map code_says (map first (map cell (filter in_first es))) ≡ filter_map slot_says (map slot es)
+pub said_codes : (es : List (Slot × List ℕ)) → filter_map code_says (map first (map cell (filter in_first es))) ≡ filter_map slot_says (map slot es)
 said_codes [] = refl
 said_codes (e ∷ es) =
     ap (λ t. filter_map code_says (map first (map cell (cond ((e.0.table == 0) && t) (e ∷ rest) rest)))) (le_any e.0.key)

@@ -1,0 +1,51 @@
+-- On tests and on what they leave.
+use Rattle.std.proofs.Common.{◌≡◌, ◌||◌, ◌&&◌, ℕ, Bool, true, false, List, [], ◌∷◌, map, length, nat_le, refl, ap, ◌∙◌}
+use Rattle.std.specs.Prelude.{Option, Some, None, filter, filter_map}
+use Rattle.std.specs.List.{list_any, list_all, cons_option, AllByRecursion}
+use Rattle.dw_derive.specs.Readers.{only_if}
+
+pub only_some : {A : Type 0} (b : Bool) (x y : A) → only_if b x ≡ Some y → (b ≡ true) × (x ≡ y)
+only_some true x y e = (refl, cc)
+only_some false x y e = cc
+
+pub only_true : {A : Type 0} (b : Bool) (x : A) → b ≡ true → only_if b x ≡ Some x
+only_true true x e = refl
+only_true false x e = cc
+
+pub both : (a b : Bool) → a ≡ true → b ≡ true → (a && b) ≡ true
+both true b h k = k
+both false b h k = cc
+
+pub none_or : (a b : Bool) → (a || b) ≡ false → (a ≡ false) × (b ≡ false)
+none_or true b h = cc
+none_or false b h = (refl, h)
+
+-- what holds of each that is found holds of all
+pub all_found : {A B : Type 0} (P : B → Type 0) (f : A → Option B) → ((x : A) (y : B) → f x ≡ Some y → P y) → (xs : List A) → AllByRecursion P (filter_map f xs)
+all_found P f h [] = tt
+all_found {B = B} P f h (x ∷ xs) = at (f x) refl (all_found P f h xs)
+  where
+    at : (o : Option B) → f x ≡ o → AllByRecursion P (filter_map f xs) → AllByRecursion P (cons_option o (filter_map f xs))
+    at None e r = r
+    at (Some y) e r = (h x y e, r)
+
+pub all_pass : {A : Type 0} (p : A → Bool) (xs : List A) → AllByRecursion (λ x. p x ≡ true) xs → list_all p xs ≡ true
+all_pass p [] h = refl
+all_pass p (x ∷ xs) h = both (p x) (list_all p xs) h.0 (all_pass p xs h.1)
+
+-- where each passes none is left out
+pub all_kept : {A : Type 0} (p : A → Bool) (xs : List A) → AllByRecursion (λ x. p x ≡ true) xs → filter p xs ≡ xs
+all_kept p [] h = refl
+all_kept p (x ∷ xs) h = at (p x) h.0 (all_kept p xs h.1)
+  where
+    at : (b : Bool) → b ≡ true → filter p xs ≡ xs → (elim b as (λ _. List _) [ true ↦ x ∷ filter p xs | false ↦ filter p xs ]) ≡ x ∷ xs
+    at true e r = ap (λ ys. x ∷ ys) r
+    at false e r = cc
+
+-- a list of which some passes is not empty
+pub some_there : {A : Type 0} (p : A → Bool) (xs : List A) → list_any p xs ≡ true → nat_le 1 (length xs) ≡ true
+some_there p [] h = cc
+some_there p (x ∷ xs) h = le (length xs)
+  where
+    le : (n : ℕ) → nat_le 1 (length (x ∷ xs)) ≡ true
+    le n = refl

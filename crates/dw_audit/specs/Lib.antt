@@ -1,0 +1,6 @@
+pub mod WorldOf
+pub mod Sound
+pub mod Meta
+pub mod Making
+pub mod Comparing
+pub mod Laws

@@ -1,0 +1,12 @@
+//! The audit of tables: whether they are those of a world, and where they first differ from them.
+#![tactic(auto)]
+
+mod comparing;
+mod making;
+mod meta;
+mod rules;
+mod stored;
+mod verdict;
+
+pub use dw_base::OutOfMemory;
+pub use verdict::Verdict;
