@@ -1,5 +1,5 @@
 -- On the cells of events that count.
-use Rattle.std.proofs.Common.{◌≡◌, ◌<◌, ◌+◌, ◌*◌, ◌-◌, ◌==◌, ◌&&◌, ◌^◌, ℕ, Bool, true, false, cond, nat_le, List, [], ◌∷◌, length, refl, sym, ap, subst, ◌∙◌, arith}
+use Rattle.std.proofs.Common.{◌≡◌, ◌<◌, ◌+◌, ◌*◌, ◌-◌, ◌%◌, ◌==◌, ◌&&◌, ◌^◌, ℕ, Bool, true, false, cond, nat_le, List, [], ◌∷◌, length, refl, sym, ap, subst, ◌∙◌, arith}
 use Rattle.std.specs.Prelude.{Option, Some, None, Result, Ok, Err, nat_eq}
 use Rattle.std.specs.Option.{option_map, option_and_then}
 use Rattle.std.specs.List.{AllByRecursion}
@@ -8,6 +8,7 @@ use Rattle.std.specs.Cmp.Lexicographic.{pointwise}
 use Rattle.std.proofs.lemmas.Bool.Decides.{nat_tests}
 use Rattle.hex.specs.Hex.{encode_lower, hex_digit_value, value_at, digit_or_error, pair_value, decode_pairs, decode_of, ◌>>=◌}
 use Rattle.hex.specs.declared.error.FromHexError.{FromHexError}
+use Rattle.hex.specs.declared.error.FromHexError.TheVariants.{OddLength}
 use Rattle.dw_key.specs.declared.key.Key.{Key}
 use Rattle.dw_key.specs.declared.doc_key.DocKey.{DocKey}
 use Rattle.dw_key.specs.KeyCode.{AreBytes}
@@ -25,13 +26,9 @@ use Rattle.dw_derive.specs.UidLists.{IsUid}
 use Rattle.dw_derive.proofs.Decoding.{and_then_some, map_some}
 use Rattle.dw_derive.proofs.Shards.{left, right}
 use Rattle.dw_audit.specs.WorldOf.{code_counts, slot_counts}
-use Rattle.dw_audit.proofs.Tests.{only_some}
+use Rattle.dw_audit.proofs.Tests.{only_some, if_some}
 
 -- ---- the bytes that hexadecimal digits spell
-
-if_some : {A : Type 0} (b : Bool) (o : Option A) (y : A) → cond b o None ≡ Some y → (b ≡ true) × (o ≡ Some y)
-if_some true o y e = (refl, e)
-if_some false o y e = cc
 
 digit_small : (c v : ℕ) → hex_digit_value c ≡ Some v → v < 16
 digit_small c v h = at (nat_le 65 c && nat_le c 70) (nat_le 97 c && nat_le c 102) (nat_le 48 c && nat_le c 57) refl refl refl h
@@ -72,8 +69,7 @@ pair_small high low i b e =
     let l = step_ok (value_at low (i + 1)) _ b h.2 in
     let x : h.0 < 16 = value_small high i h.0 h.1 in
     let y : l.0 < 16 = value_small low (i + 1) l.0 l.1 in
-    let z : Ok (h.0 * 16 + l.0) ≡ Ok {E = FromHexError} b = l.2 in
-    let same : h.0 * 16 + l.0 ≡ b = cc in
+    let same : h.0 * 16 + l.0 ≡ b = cc l.2 in
     omega (arith, x, y, same)
 
 pairs_are_bytes : (i : ℕ) (text bytes : List ℕ) → decode_pairs i text ≡ Ok bytes → AreBytes bytes
@@ -83,14 +79,13 @@ pairs_are_bytes i (d ∷ []) bytes e = cc
 pairs_are_bytes i (high ∷ low ∷ rest) bytes e =
     let first = step_ok (pair_value high low i) _ bytes e in
     let more = step_ok (decode_pairs (i + 2) rest) _ bytes first.2 in
-    let z : Ok (first.0 ∷ more.0) ≡ Ok {E = FromHexError} bytes = more.2 in
-    let same : first.0 ∷ more.0 ≡ bytes = cc in
+    let same : first.0 ∷ more.0 ≡ bytes = cc more.2 in
     subst AreBytes same (pair_small high low i first.0 first.1, pairs_are_bytes (i + 2) rest more.0 more.1)
 
 decoded_are_bytes : (text bytes : List ℕ) → decode_of text ≡ Ok bytes → AreBytes bytes
-decoded_are_bytes text bytes e = at _ e
+decoded_are_bytes text bytes e = at (length text % 2 == 1) e
   where
-    at : (b : Bool) → cond b (Err _) (decode_pairs 0 text) ≡ Ok bytes → AreBytes bytes
+    at : (b : Bool) → cond b (Err OddLength) (decode_pairs 0 text) ≡ Ok bytes → AreBytes bytes
     at true e = cc
     at false e = pairs_are_bytes 0 text bytes e
 

@@ -1,3 +1,5 @@
 pub mod Tests
 pub mod ShardNames
 pub mod Countings
+pub mod Spelled
+pub mod Differing

@@ -1,7 +1,8 @@
 -- On tests and on what they leave.
-use Rattle.std.proofs.Common.{◌≡◌, ◌||◌, ◌&&◌, ℕ, Bool, true, false, List, [], ◌∷◌, map, length, nat_le, refl, ap, ◌∙◌}
-use Rattle.std.specs.Prelude.{Option, Some, None, filter, filter_map}
+use Rattle.std.proofs.Common.{◌≡◌, ◌||◌, ◌&&◌, ℕ, suc, arith, Bool, true, false, cond, List, [], ◌∷◌, map, length, nat_le, refl, ap, subst, ◌∙◌}
+use Rattle.std.specs.Prelude.{Option, Some, None, MatchOption, Result, Ok, Err, OnOk, filter, filter_map}
 use Rattle.std.specs.List.{list_any, list_all, cons_option, AllByRecursion}
+use Rattle.std.proofs.lemmas.Bool.Decides.{nat_tests}
 use Rattle.dw_derive.specs.Readers.{only_if}
 
 pub only_some : {A : Type 0} (b : Bool) (x y : A) → only_if b x ≡ Some y → (b ≡ true) × (x ≡ y)
@@ -11,6 +12,26 @@ only_some false x y e = cc
 pub only_true : {A : Type 0} (b : Bool) (x : A) → b ≡ true → only_if b x ≡ Some x
 only_true true x e = refl
 only_true false x e = cc
+
+pub if_some : {A : Type 0} (b : Bool) (o : Option A) (y : A) → cond b o None ≡ Some y → (b ≡ true) × (o ≡ Some y)
+if_some true o y e = (refl, e)
+if_some false o y e = cc
+
+pub none_of : {X : Type 0} (A : Type 0) (B : X → Type 0) (o : Option X) → o ≡ None → MatchOption o A B → A
+none_of A B None e h = h
+none_of A B (Some x) e h = cc
+
+pub some_of : {X : Type 0} (A : Type 0) (B : X → Type 0) (o : Option X) (x : X) → o ≡ Some x → MatchOption o A B → B x
+some_of A B None x e h = cc
+some_of A B (Some y) x e h = let same : y ≡ x = cc in subst B same h
+
+pub on_ok : {A E P Q : Type 0} (r : Result A E) → (P → Q) → OnOk r P → OnOk r Q
+on_ok (Ok x) f h = f h
+on_ok (Err e) f h = h
+
+pub always_ok : {A E P : Type 0} (r : Result A E) → P → OnOk r P
+always_ok (Ok x) h = h
+always_ok (Err e) h = tt
 
 pub both : (a b : Bool) → a ≡ true → b ≡ true → (a && b) ≡ true
 both true b h k = k
@@ -38,14 +59,14 @@ pub all_kept : {A : Type 0} (p : A → Bool) (xs : List A) → AllByRecursion (�
 all_kept p [] h = refl
 all_kept p (x ∷ xs) h = at (p x) h.0 (all_kept p xs h.1)
   where
-    at : (b : Bool) → b ≡ true → filter p xs ≡ xs → (elim b as (λ _. List _) [ true ↦ x ∷ filter p xs | false ↦ filter p xs ]) ≡ x ∷ xs
+    at : (b : Bool) → b ≡ true → filter p xs ≡ xs → cond b (x ∷ filter p xs) (filter p xs) ≡ x ∷ xs
     at true e r = ap (λ ys. x ∷ ys) r
     at false e r = cc
 
 -- a list of which some passes is not empty
 pub some_there : {A : Type 0} (p : A → Bool) (xs : List A) → list_any p xs ≡ true → nat_le 1 (length xs) ≡ true
 some_there p [] h = cc
-some_there p (x ∷ xs) h = le (length xs)
+some_there p (x ∷ xs) h = some (length xs)
   where
-    le : (n : ℕ) → nat_le 1 (length (x ∷ xs)) ≡ true
-    le n = refl
+    some : (n : ℕ) → nat_le 1 (suc n) ≡ true
+    some n = grind (arith, nat_tests)

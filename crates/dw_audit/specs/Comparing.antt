@@ -68,16 +68,16 @@ first_difference lists (e ∷ es) (f ∷ fs) = differ_or lists (first_difference
 
 -- a slot has what is wanted there beside it
 abbrev pub IsAlike : Bool → Tables → Tables → Slot → Type 0
-IsAlike lists t wanted s = map.get t s ≡ wanted_beside lists (map.get t s) (map.get wanted s)
+IsAlike lists t u s = map.get t s ≡ wanted_beside lists (map.get t s) (map.get u s)
 
 -- the first key of a table at which tables are not as they are wanted
-pub record IsFirstIn (lists : Bool) (table : ℕ) (t wanted : Tables) (d : Difference) : Type 0 where
+pub record IsFirstIn (lists : Bool) (table : ℕ) (t u : Tables) (d : Difference) : Type 0 where
   pub found : map.get t (record { table = table; key = d.key }) ≡ d.found
-  pub wanted : wanted_beside lists d.found (map.get wanted (record { table = table; key = d.key })) ≡ d.wanted
+  pub wanted : wanted_beside lists d.found (map.get u (record { table = table; key = d.key })) ≡ d.wanted
   pub differ : d.found ≢ d.wanted
-  pub before : (key : List ℕ) → slice_cmp nat_cmp key d.key ≡ Less → IsAlike lists t wanted (record { table = table; key = key })
+  pub before : (key : List ℕ) → slice_cmp nat_cmp key d.key ≡ Less → IsAlike lists t u (record { table = table; key = key })
 
 -- what comparing one table says
 abbrev pub IsCompared : Bool → ℕ → Tables → Tables → Option Difference → Type 0
-IsCompared lists table t wanted None = (key : List ℕ) → IsAlike lists t wanted (record { table = table; key = key })
-IsCompared lists table t wanted (Some d) = IsFirstIn lists table t wanted d
+IsCompared lists table t u None = (key : List ℕ) → IsAlike lists t u (record { table = table; key = key })
+IsCompared lists table t u (Some d) = IsFirstIn lists table t u d

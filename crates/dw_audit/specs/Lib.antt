@@ -3,4 +3,5 @@ pub mod Sound
 pub mod Meta
 pub mod Making
 pub mod Comparing
+pub mod Found
 pub mod Laws

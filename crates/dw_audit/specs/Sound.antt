@@ -1,8 +1,7 @@
 -- When tables are sound, and where they are not.
-use Rattle.std.specs.Prelude.{◌≡◌, ◌≢◌, ℕ, ◌≤◌, List, Option, Some}
+use Rattle.std.specs.Prelude.{◌≡◌, ◌≢◌, ℕ, ◌≤◌, List, Option}
 use Rattle.std.specs.FinMap as map
 use Rattle.std.specs.declared.cmp.Ordering.TheVariants.{Less}
-use Rattle.dw_key.specs.KeyCode.{AreBytes}
 use Rattle.dw_outside.specs.declared.slot.Slot.{Slot}
 use Rattle.dw_outside.specs.Tables.{Tables, slot_cmp}
 use Rattle.dw_derive.specs.Tables.{tables}
@@ -21,13 +20,9 @@ abbrev pub AreSound : Tables → Type 0
 AreSound t = AreAlike t (wanted_tables t)
 
 -- the first slot at which tables and those of their world differ, by table and then by key, and what each has there
-pub record IsFirstDifference (t : Tables) (s : Slot) (found wanted : Option (List ℕ)) : Type 0 where
+pub record IsFirstDifference (t : Tables) (s : Slot) (has wants : Option (List ℕ)) : Type 0 where
   pub table : s.table ≤ 3
-  pub found : map.get t s ≡ found
-  pub wanted : map.get (wanted_tables t) s ≡ wanted
-  pub differ : found ≢ wanted
+  pub found : map.get t s ≡ has
+  pub wanted : map.get (wanted_tables t) s ≡ wants
+  pub differ : has ≢ wants
   pub before : (below : Slot) → slot_cmp below s ≡ Less → map.get t below ≡ map.get (wanted_tables t) below
-
--- the four tables hold bytes
-abbrev pub HoldBytes : Tables → Type 0
-HoldBytes t = (s : Slot) (content : List ℕ) → s.table ≤ 3 → map.get t s ≡ Some content → AreBytes s.key × AreBytes content

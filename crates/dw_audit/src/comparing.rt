@@ -138,18 +138,20 @@ pub fn first_difference(
 ) -> Result<Option<Difference>, OutOfMemory>
     ensures { IfOk result (λ o. o ≡ difference_of lists (list_map cell_pair found.now) (list_map cell_pair wanted.now)) }
 {
-    let mut found = found;
-    let mut wanted = wanted;
-    while let ([cell, rest @ ..], [other, others @ ..]) = (found, wanted) {
+    let mut left = found;
+    let mut right = wanted;
+    while let Some((cell, cells)) = left.split_first() {
+        let Some((other, others)) = right.split_first() else {
+            return only_found(cell);
+        };
         if let Some(difference) = differ(alloc, lists, cell, other)? {
             return Ok(Some(difference));
         }
-        found = rest;
-        wanted = others;
+        left = cells;
+        right = others;
     }
-    match (found, wanted) {
-        ([cell, ..], _) => only_found(cell),
-        (_, [cell, ..]) => only_wanted(cell),
-        _ => Ok(None),
+    match right.first() {
+        None => Ok(None),
+        Some(cell) => only_wanted(cell),
     }
 }
