@@ -1,5 +1,5 @@
 -- On the first difference of two lists of cells.
-use Rattle.std.proofs.Common.{◌≡◌, ◌≤◌, ℕ, Bool, true, false, cond, List, [], ◌∷◌, map, length, get_or, refl, sym, ap, ◌∙◌, arith}
+use Rattle.std.proofs.Common.{◌≡◌, ℕ, Bool, true, false, cond, List, [], ◌∷◌, map, refl, sym, ap, ◌∙◌}
 use Rattle.std.specs.Prelude.{◌≢◌, Option, Some, None, T}
 use Rattle.std.specs.Cmp.Lexicographic.{slice_cmp, nat_list_cmp_total}
 use Rattle.std.specs.Cmp.{IsTotalOrder}
@@ -59,18 +59,12 @@ differ_none lists follows e f h = at (slice_cmp nat_cmp e.0 f.0) h
     at Equal h = changed_none follows e (formed lists (Some e.1) f.1) h
     at Greater h = cc
 
-head_is : (cells : List Cell) (c : Cell) → 1 ≤ length cells → c ≡ get_or cells 0 c → (rest : List Cell) × (cells ≡ c ∷ rest)
-head_is [] c h e = absurd (omega arith)
-head_is (x ∷ rest) c h e = (rest, λ i. sym e i ∷ rest)
-
 -- where the first cells differ, that is the difference
-pub heads_differ : (lists : Bool) (found wanted : List Cell) (e f : Cell) (d : Difference) → 1 ≤ length found → 1 ≤ length wanted → e ≡ get_or found 0 e → f ≡ get_or wanted 0 f
+pub heads_differ : (lists : Bool) (found wanted es fs : List Cell) (e f : Cell) (d : Difference) → found ≡ e ∷ es → wanted ≡ f ∷ fs
     → differ_or lists None (cell_pair e) (cell_pair f) ≡ Some d → first_difference lists (map cell_pair found) (map cell_pair wanted) ≡ Some d
-heads_differ lists found wanted e f d some others is other h =
-    let es = head_is found e some is in
-    let fs = head_is wanted f others other in
-    (λ i. first_difference lists (map cell_pair (es.1 i)) (map cell_pair (fs.1 i)))
-    ∙ differ_some lists (first_difference lists (map cell_pair es.0) (map cell_pair fs.0)) (cell_pair e) (cell_pair f) d h
+heads_differ lists found wanted es fs e f d is other h =
+    (λ i. first_difference lists (map cell_pair (is i)) (map cell_pair (other i)))
+    ∙ differ_some lists (first_difference lists (map cell_pair es) (map cell_pair fs)) (cell_pair e) (cell_pair f) d h
 
 -- ---- what the walk finds
 
