@@ -5,3 +5,5 @@ pub mod Spelled
 pub mod SaidLemmas
 pub mod Differing
 pub mod TableSpans
+pub mod KeptEvents
+pub mod ReadMeta
