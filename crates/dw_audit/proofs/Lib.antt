@@ -7,3 +7,5 @@ pub mod Differing
 pub mod TableSpans
 pub mod KeptEvents
 pub mod ReadMeta
+pub mod StoodFor
+pub mod Makings
