@@ -9,3 +9,5 @@ pub mod KeptEvents
 pub mod ReadMeta
 pub mod StoodFor
 pub mod Makings
+pub mod OlderForms
+pub mod Judging

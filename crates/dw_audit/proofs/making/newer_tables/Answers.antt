@@ -11,5 +11,5 @@ returns c t shard meta =
     let m = sum_of c.in_ok-dict.field-0 in
     IfOk-weaker c.numbered.result _ _
     (λ s h. h ∙ newer_made c.events_are_steps.ensures c.numbers_are_cells.ensures c.rules_are_cells.ensures c.grants_are_cells.ensures t c.args.meta.now m c.in_ok-events.events.entries (made_of c.in_ok-made.made)
-    meta c.in_ok-dict.ensures (events_are t c.args.shard.now c.in_ok-events.events.entries shard c.in_ok-events.ensures.ordered c.in_ok-events.ensures.held) ?)
+    meta c.in_ok-dict.ensures (events_are t c.args.shard.now c.in_ok-events.events.entries shard c.in_ok-events.ensures.ordered c.in_ok-events.ensures.held) c.in_ok-made.ensures)
     c.numbered.ensures
