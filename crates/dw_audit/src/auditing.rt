@@ -4,7 +4,7 @@ ghost use Rattle.dw_outside.specs.Tables.{Tables, cell_pair, span_of};
 ghost use Rattle.dw_outside.specs.declared.keeper_error.KeeperError.{KeeperError};
 ghost use Rattle.dw_audit.specs.Comparing.{IsCompared};
 ghost use Rattle.dw_audit.specs.Sound.{AreSound};
-ghost use Rattle.dw_audit.specs.Found.{IsVerdict, damaged_at};
+ghost use Rattle.dw_audit.specs.Found.{IsVerdict, IsReady, damaged_at};
 ghost use Rattle.dw_audit.specs.declared.verdict.Verdict.{Verdict};
 
 use crate::OutOfMemory;
@@ -89,17 +89,60 @@ fn judge<K: Keeper>(alloc: Global, keeper: &mut K) -> Result<Verdict, KeeperErro
     let meta = keeper.scan(3, b"", b"", 0)?;
     let shard = keeper.scan(0, b"", b"", 0)?;
     let wanted = newer_tables(alloc, shard.as_slice(), meta.as_slice())?;
-    if let Some(difference) = compare(alloc, 0, false, shard.as_slice(), &wanted)? {
-        return Ok(damaged(0, difference));
-    }
+    let difference = compare(alloc, 0, false, shard.as_slice(), &wanted)?;
     drop(shard);
-    if let Some(difference) = compare_lists(alloc, keeper, 1, &wanted)? {
-        return Ok(damaged(1, difference));
+    match difference {
+        None => judge_index(alloc, keeper, meta.as_slice(), &wanted),
+        Some(difference) => Ok(damaged(0, difference)),
     }
-    if let Some(difference) = compare_lists(alloc, keeper, 2, &wanted)? {
-        return Ok(damaged(2, difference));
+}
+
+/// The verdict, where the table before is as it is wanted.
+fn judge_index<K: Keeper>(
+    alloc: Global,
+    keeper: &mut K,
+    meta: &[Cell],
+    wanted: &Store,
+) -> Result<Verdict, KeeperError>
+    ensures same { K.told keeper.new ≡ K.told keeper.old }
+    ensures verdict { (t : Tables) → K.told keeper.old ≡ Some t → IsReady t meta.now wanted.now 1 → IfOk result (λ v. IsVerdict t v) }
+    ensures unasked { K.asked keeper.new ≡ K.asked keeper.old }
+    ensures counted { K.faults keeper.old ≤ K.faults keeper.new }
+    ensures failed { result ≡ Err KeeperError.Failed → Rose (K.faults keeper.old) (K.faults keeper.new) }
+{
+    codes_tell_keys();
+    match compare_lists(alloc, keeper, 1, wanted)? {
+        None => judge_reversed(alloc, keeper, meta, wanted),
+        Some(difference) => Ok(damaged(1, difference)),
     }
-    match compare(alloc, 3, false, meta.as_slice(), &wanted)? {
+}
+
+/// The verdict, where the two tables before are as they are wanted.
+fn judge_reversed<K: Keeper>(
+    alloc: Global,
+    keeper: &mut K,
+    meta: &[Cell],
+    wanted: &Store,
+) -> Result<Verdict, KeeperError>
+    ensures same { K.told keeper.new ≡ K.told keeper.old }
+    ensures verdict { (t : Tables) → K.told keeper.old ≡ Some t → IsReady t meta.now wanted.now 2 → IfOk result (λ v. IsVerdict t v) }
+    ensures unasked { K.asked keeper.new ≡ K.asked keeper.old }
+    ensures counted { K.faults keeper.old ≤ K.faults keeper.new }
+    ensures failed { result ≡ Err KeeperError.Failed → Rose (K.faults keeper.old) (K.faults keeper.new) }
+{
+    codes_tell_keys();
+    match compare_lists(alloc, keeper, 2, wanted)? {
+        None => Ok(judge_meta(alloc, meta, wanted)?),
+        Some(difference) => Ok(damaged(2, difference)),
+    }
+}
+
+/// The verdict, where the three tables before are as they are wanted.
+fn judge_meta(alloc: Global, meta: &[Cell], wanted: &Store) -> Result<Verdict, OutOfMemory>
+    ensures { (t : Tables) → IsReady t meta.now wanted.now 3 → IfOk result (λ v. IsVerdict t v) }
+{
+    codes_tell_keys();
+    match compare(alloc, 3, false, meta, wanted)? {
         None => Ok(Verdict::Sound),
         Some(difference) => Ok(damaged(3, difference)),
     }
