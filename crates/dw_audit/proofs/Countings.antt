@@ -1,8 +1,6 @@
 -- On the cells of events that count.
-use Rattle.std.proofs.Common.{◌≡◌, ◌<◌, ◌+◌, ◌*◌, ◌-◌, ◌%◌, ◌==◌, ◌&&◌, ◌^◌, ℕ, Bool, true, false, cond, nat_le, List, [], ◌∷◌, length, refl, sym, ap, subst, ◌∙◌, arith}
+use Rattle.std.proofs.Common.{◌≡◌, ◌<◌, ◌+◌, ◌*◌, ◌-◌, ◌%◌, ◌==◌, ◌&&◌, ℕ, Bool, true, false, cond, nat_le, List, [], ◌∷◌, length, refl, ap, subst, ◌∙◌, arith}
 use Rattle.std.specs.Prelude.{Option, Some, None, Result, Ok, Err, nat_eq}
-use Rattle.std.specs.Option.{option_map, option_and_then}
-use Rattle.std.specs.List.{AllByRecursion}
 use Rattle.std.specs.Str.{is_utf8}
 use Rattle.std.specs.Cmp.Lexicographic.{pointwise}
 use Rattle.std.proofs.lemmas.Bool.Decides.{nat_tests}
@@ -13,18 +11,16 @@ use Rattle.dw_key.specs.declared.key.Key.{Key}
 use Rattle.dw_key.specs.declared.doc_key.DocKey.{DocKey}
 use Rattle.dw_key.specs.KeyCode.{AreBytes}
 use Rattle.dw_key.specs.TypeName.{is_type_name}
-use Rattle.dw_event.specs.declared.cells.EventCell.{EventCell}
-use Rattle.dw_event.specs.declared.records.Place.{Place}
 use Rattle.dw_event.specs.Records.{is_cell}
 use Rattle.dw_outside.specs.declared.slot.Slot.{Slot}
 use Rattle.dw_derive.specs.Decoded.{key_from}
 use Rattle.dw_derive.specs.Documents.{seen_by}
 use Rattle.dw_derive.specs.EventsRead.{CellReading, with_cell_of, key_says, code_says}
-use Rattle.dw_derive.specs.Readers.{EventReading, only_if, split_at_zero, uid_given, uid_from, doc_of, doc_from, event_parts, event_reading}
+use Rattle.dw_derive.specs.Readers.{EventReading, split_at_zero, uid_given, uid_from, doc_of, doc_from, event_parts, event_reading}
 use Rattle.dw_derive.specs.ReaderLaws.{IsDocKey}
 use Rattle.dw_derive.specs.UidLists.{IsUid}
 use Rattle.dw_derive.proofs.Decoding.{and_then_some, map_some}
-use Rattle.dw_derive.proofs.Shards.{left, right}
+use Rattle.dw_derive.proofs.Shards.{left}
 use Rattle.dw_audit.specs.WorldOf.{code_counts, slot_counts}
 use Rattle.dw_audit.proofs.Tests.{only_some, if_some}
 

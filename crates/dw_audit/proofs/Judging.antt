@@ -1,25 +1,21 @@
 -- On the verdict of an audit.
-use Rattle.std.proofs.Common.{◌≡◌, ◌⊎◌, inl, inr, ◌≤◌, ◌<◌, ◌==◌, ℕ, zero, suc, Bool, true, false, List, [], map, refl, sym, ap, subst, ◌∙◌, arith}
+use Rattle.std.proofs.Common.{◌≡◌, ◌⊎◌, inl, inr, ◌≤◌, ◌<◌, ℕ, zero, suc, Bool, true, false, List, [], map, refl, sym, ap, subst, ◌∙◌, arith}
 use Rattle.std.specs.Prelude.{Option, Some, None}
-use Rattle.std.specs.Cmp.{nat_cmp_is, nat_cmp_total}
+use Rattle.std.specs.Cmp.{nat_cmp_is}
 use Rattle.std.specs.Cmp.Lexicographic.{slice_cmp}
 use Rattle.std.specs.Ordering.{nat_cmp, ordering_then}
 use Rattle.std.specs.FinMap.{get}
-use Rattle.std.specs.declared.cmp.Ordering.{Ordering}
 use Rattle.std.specs.declared.cmp.Ordering.TheVariants.{Less, Equal, Greater}
 use Rattle.std.proofs.lemmas.Bool.{cases_lt}
-use Rattle.std.proofs.lemmas.Bool.Decides.{nat_tests}
 use Rattle.dw_key.specs.KeyLaws.{CodesTellKeys}
 use Rattle.dw_outside.specs.declared.slot.Slot.{Slot}
 use Rattle.dw_outside.specs.declared.cell.Cell.{Cell}
 use Rattle.dw_outside.specs.Tables.{Tables, slot_cmp, cell_pair, span_of}
-use Rattle.dw_derive.specs.Tables.{tables}
 use Rattle.dw_audit.specs.declared.comparing.Difference.{Difference}
 use Rattle.dw_audit.specs.declared.verdict.Verdict.{Verdict}
 use Rattle.dw_audit.specs.declared.verdict.Verdict.TheVariants.{Sound, Damaged}
-use Rattle.dw_audit.specs.WorldOf.{world_of}
-use Rattle.dw_audit.specs.Sound.{wanted_tables, AreSound, IsFirstDifference}
-use Rattle.dw_audit.specs.Comparing.{wanted_beside, IsAlike, IsFirstIn, IsCompared}
+use Rattle.dw_audit.specs.Sound.{wanted_tables, AreSound}
+use Rattle.dw_audit.specs.Comparing.{wanted_beside, IsAlike, IsCompared}
 use Rattle.dw_audit.specs.Making.{newer_tables}
 use Rattle.dw_audit.specs.Found.{IsVerdict, IsAsWanted, IsReady, damaged_at}
 use Rattle.dw_audit.proofs.OlderForms.{plain_table, meta_table, list_table}

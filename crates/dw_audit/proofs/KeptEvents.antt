@@ -1,10 +1,10 @@
 -- On the events that tables stand for: they are lawful, and ascend.
-use Rattle.std.proofs.Common.{◌≡◌, ◌≤◌, ◌<◌, ◌^◌, ◌&&◌, ◌||◌, ℕ, Bool, true, false, nat_le, nat_lt, List, [], ◌∷◌, map, length, take, refl, sym, ap, subst, ◌∙◌, arith}
-use Rattle.std.specs.Prelude.{filter, filter_map}
+use Rattle.std.proofs.Common.{◌≡◌, ◌≤◌, ◌<◌, ◌^◌, ◌&&◌, ℕ, Bool, true, nat_le, nat_lt, List, [], ◌∷◌, map, length, take, refl, sym, ap, subst, ◌∙◌, arith}
+use Rattle.std.specs.Prelude.{filter}
 use Rattle.std.specs.List.{list_any, list_all, AllByRecursion}
 use Rattle.std.specs.List.Sorted.{IsStrictlySortedBy}
 use Rattle.std.specs.Map.{keys_of}
-use Rattle.std.specs.Ordering.{eq_by_cmp, is_eq}
+use Rattle.std.specs.Ordering.{is_eq}
 use Rattle.std.specs.FinMap.{keys}
 use Rattle.std.proofs.lemmas.Cmp.{tied_itself}
 use Rattle.std.proofs.lemmas.Bool.Decides.{nat_tests}
@@ -31,7 +31,7 @@ use Rattle.dw_derive.proofs.Shards.{left, right}
 use Rattle.dw_derive.proofs.WholeDocuments.{cells_total}
 use Rattle.dw_ingest.proofs.EntryTables.{all_items}
 use Rattle.dw_audit.specs.WorldOf.{is_shard, is_batch, is_kept, readings_in, slot_counts, stored_events}
-use Rattle.dw_audit.proofs.Tests.{all_found, all_by_tests, all_map, all_weaker, all_filter, ascend_filtered, some_there, or_left, or_right, and_true, both}
+use Rattle.dw_audit.proofs.Tests.{all_found, all_by_tests, all_map, all_filter, ascend_filtered, some_there, or_left, or_right, and_true, both}
 use Rattle.dw_audit.proofs.ShardNames.{shard_is, shard_day}
 use Rattle.dw_audit.proofs.Countings.{Counts, counted_is}
 

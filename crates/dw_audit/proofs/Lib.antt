@@ -11,3 +11,5 @@ pub mod StoodFor
 pub mod Makings
 pub mod OlderForms
 pub mod Judging
+pub mod WholeAgain
+pub mod Changes

@@ -1,10 +1,9 @@
 -- On how the tables of a world are made.
-use Rattle.std.proofs.Common.{◌≡◌, ◌≢◌, ◌≤◌, ◌<◌, ◌==◌, ℕ, zero, suc, Bool, true, false, cond, List, [], ◌∷◌, ◌++◌, map, length, refl, sym, ap, subst, ◌∙◌, append_assoc, arith}
+use Rattle.std.proofs.Common.{◌≡◌, ◌≤◌, ◌==◌, ℕ, Bool, true, false, cond, List, [], ◌∷◌, ◌++◌, map, length, refl, sym, ap, subst, ◌∙◌, append_assoc, arith}
 use Rattle.std.specs.Prelude.{Option, Some, None, filter, filter_map, max}
 use Rattle.std.specs.List.{AllByRecursion, cons_option}
 use Rattle.std.specs.List.Sorted.{IsStrictlySortedBy}
 use Rattle.std.specs.Map.{keys_of}
-use Rattle.std.specs.BTreeMap.{insert_entry}
 use Rattle.std.specs.Ordering.{nat_cmp, is_eq}
 use Rattle.std.specs.Cmp.Lexicographic.{slice_cmp}
 use Rattle.std.specs.FinMap as finmap
@@ -21,18 +20,18 @@ use Rattle.dw_outside.specs.declared.cell.Cell.{Cell}
 use Rattle.dw_outside.specs.Tables.{Tables, slot_cmp, cell_pair, span_of}
 use Rattle.dw_derive.specs.EventsRead.{CellReading, events_of, held_after}
 use Rattle.dw_derive.specs.Laws.{stepped, with_last, EventsAreSteps, NumbersAreCells}
-use Rattle.dw_derive.specs.Lawful.{IsEvent, HasEvents, with_event}
+use Rattle.dw_derive.specs.Lawful.{IsEvent, HasEvents}
 use Rattle.dw_derive.specs.Meta.{commit_slot, commit_bytes}
 use Rattle.dw_derive.specs.MetaReaders.{commit_reading, field_reading, grant_reading}
 use Rattle.dw_derive.specs.MetaTables.{cell_says, first_number, meta_of, last_of, dict_of, grants_of, RulesAreCells, GrantsAreCells}
 use Rattle.dw_derive.specs.Tables.{tables, field_cell, grant_cell}
 use Rattle.dw_derive.specs.World.{World, Grants}
 use Rattle.dw_derive.proofs.GatherLemmas.{held_none, held_of_events, said_codes}
-use Rattle.dw_derive.proofs.IndexLemmas.{before, none_at, insert_last, lawful_parts, above}
+use Rattle.dw_derive.proofs.IndexLemmas.{before, insert_last, lawful_parts, above}
 use Rattle.dw_ingest.proofs.NewIndexes.{same_events, keys_of_pairs}
 use Rattle.dw_audit.specs.WorldOf.{is_kept, code_counts, readings_in, stored_events, greatest_batch, last_for, world_of}
 use Rattle.dw_audit.specs.Meta.{MetaSum, nothing_said, with_field, with_grant, with_number, all_said}
-use Rattle.dw_audit.specs.Making.{MadeSum, made_with, made_by, numbered, newer_world, newer_tables}
+use Rattle.dw_audit.specs.Making.{MadeSum, made_by, numbered, newer_tables}
 use Rattle.dw_audit.proofs.Tests.{all_weaker}
 use Rattle.dw_audit.proofs.KeptEvents.{events_ascend, stored_lawful, stored_ascend}
 use Rattle.dw_audit.proofs.StoodFor.{stored_numbered}

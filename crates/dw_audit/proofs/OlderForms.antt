@@ -1,27 +1,24 @@
 -- On the lists of the older form in the tables of a world.
-use Rattle.std.proofs.Common.{◌≡◌, ◌≤◌, ◌<◌, ◌&&◌, ◌==◌, ℕ, zero, suc, Bool, true, false, not, nat_le, cond, List, [], map, length, refl, sym, ap, ◌∙◌, arith}
+use Rattle.std.proofs.Common.{◌≡◌, ◌≤◌, ◌&&◌, ◌==◌, ℕ, Bool, true, false, not, nat_le, cond, List, [], map, length, refl, sym, ap, ◌∙◌, arith}
 use Rattle.std.specs.Prelude.{Option, Some, None, Ok, min}
 use Rattle.std.specs.List.{list_any}
 use Rattle.std.specs.FinMap.{find, get}
 use Rattle.std.specs.FinSet.{contains, contains-empty}
 use Rattle.std.proofs.lemmas.Bool.Decides.{nat_tests}
 use Rattle.dw_key.specs.KeyLaws.{CodesTellKeys}
-use Rattle.dw_event.specs.Take.{Event}
 use Rattle.dw_outside.specs.declared.slot.Slot.{Slot}
 use Rattle.dw_outside.specs.Tables.{Tables, slot_cmp}
-use Rattle.dw_derive.specs.declared.uid_list.Form.{Form}
 use Rattle.dw_derive.specs.declared.uid_list.Form.TheVariants.{One, Two}
-use Rattle.dw_derive.specs.declared.uid_list.UidList.{UidList}
 use Rattle.dw_derive.specs.declared.uid_list.UidList.TheVariants.{Kept, Counted}
 use Rattle.dw_derive.specs.UidLists.{largest_count, list_of, list_bytes, list_read}
 use Rattle.dw_derive.specs.Entries.{slots_of}
 use Rattle.dw_derive.specs.Tables.{gives, givers, uid_of, form_at, meta_cells, tables}
 use Rattle.dw_derive.specs.World.{World}
-use Rattle.dw_derive.proofs.Given.{one_shard, meta_cells_are_meta, not_meta, not_zero}
+use Rattle.dw_derive.proofs.Given.{one_shard, meta_cells_are_meta, not_meta}
 use Rattle.dw_derive.proofs.Growing.{OneShard, content_at, get_tables, read_again}
 use Rattle.dw_derive.proofs.Shards.{shard_lacks}
 use Rattle.dw_derive.proofs.Stepping.{none_given}
-use Rattle.dw_audit.specs.WorldOf.{begins_with_one, is_older, world_of}
+use Rattle.dw_audit.specs.WorldOf.{begins_with_one, world_of}
 use Rattle.dw_audit.specs.Comparing.{older_list, older_read, older_bytes, formed, wanted_beside}
 use Rattle.dw_audit.specs.Making.{newer_world, newer_tables}
 use Rattle.dw_audit.proofs.KeptEvents.{stored_lawful, stored_ascend}

@@ -1,28 +1,26 @@
 -- On what can be read of table 3: fields, grants and numbers keep their rules.
-use Rattle.std.proofs.Common.{◌≡◌, ◌≤◌, ◌<◌, ◌^◌, ◌&&◌, ◌==◌, ℕ, zero, suc, Bool, true, false, nat_le, nat_lt, List, [], ◌∷◌, length, take, drop, refl, sym, ap, subst, ◌∙◌, arith}
+use Rattle.std.proofs.Common.{◌≡◌, ◌≤◌, ◌<◌, ◌^◌, ◌&&◌, ◌==◌, ℕ, zero, suc, Bool, true, false, nat_le, nat_lt, List, [], ◌∷◌, length, take, drop, refl, sym, subst, ◌∙◌, arith}
 use Rattle.std.specs.Prelude.{Option, Some, None, IsTrue, filter_map}
-use Rattle.std.specs.Option.{option_map, option_and_then}
 use Rattle.std.specs.Int.{w16, w64, from_be_bytes}
 use Rattle.std.specs.List.{AllByRecursion}
 use Rattle.std.specs.Str.{is_utf8}
 use Rattle.std.specs.Ordering.{nat_cmp}
 use Rattle.std.specs.Cmp.Lexicographic.{slice_cmp}
-use Rattle.std.specs.FinMap.{FinMap, empty, entries, from_entries, len-empty, len-entries}
+use Rattle.std.specs.FinMap.{empty, entries, from_entries, len-empty, len-entries}
 use Rattle.std.proofs.lemmas.Bool.Decides.{nat_tests}
 use Rattle.dw_base.specs.Callers.{is_caller, is_auth}
 use Rattle.dw_base.specs.FieldNames.{is_folded_name}
 use Rattle.dw_base.specs.declared.limits.TheConstants.{MAX_NAMES}
-use Rattle.dw_key.specs.declared.key.Key.{Key}
 use Rattle.dw_dict.specs.declared.rule.FieldRule.{FieldRule}
 use Rattle.dw_outside.specs.Tables.{Tables}
 use Rattle.dw_derive.specs.Decoded.{key_from}
 use Rattle.dw_derive.specs.UidLists.{ascend}
 use Rattle.dw_derive.specs.Meta.{commit_row, field_row, grant_row}
-use Rattle.dw_derive.specs.MetaReaders.{is_in_row, number_from, commit_reading, rule_from, field_reading, name_of_size, name_in, names_in, names_from, grant_reading, AreGranted}
+use Rattle.dw_derive.specs.MetaReaders.{is_in_row, number_from, commit_reading, rule_from, field_reading, name_in, names_in, names_from, grant_reading, AreGranted}
 use Rattle.dw_derive.specs.MetaTables.{cell_says, meta_of, first_number, last_of, dict_of, grants_of}
 use Rattle.dw_derive.specs.Lawful.{IsGrant}
 use Rattle.dw_derive.proofs.Decoding.{and_then_some, map_some}
-use Rattle.dw_derive.proofs.Shards.{left, right}
+use Rattle.dw_derive.proofs.Shards.{right}
 use Rattle.dw_derive.proofs.MetaSpellings.{names-none, names-full, names-cut, names-more}
 use Rattle.dw_derive.proofs.MetaTableLemmas.{all_inserted}
 use Rattle.dw_derive.proofs.UidListLemmas.{is_ascending}

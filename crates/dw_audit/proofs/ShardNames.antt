@@ -8,13 +8,13 @@ use Rattle.std.proofs.lemmas.Bool.Decides.{nat_tests}
 use Rattle.std.proofs.lemmas.List.{take-append-drop}
 use Rattle.std.proofs.Math.Seq.{drop-append_seam}
 use Rattle.std.specs.Str.{is_utf8}
-use Rattle.std.specs.Prelude.{slice_index, Option, Some, None, if◌then◌else◌}
+use Rattle.std.specs.Prelude.{slice_index, Some, None, if◌then◌else◌}
 use Rattle.std.specs.Option.{is_some}
 use Rattle.std.proofs.lemmas.Str.{IsUtf8-from_ascii, is_utf8-from_IsUtf8}
 use Rattle.dw_base.specs.Days.{names_day, day_digits, is_dashed, without_dashes}
 use Rattle.dw_derive.specs.Lawful.{IsShardOf}
 use Rattle.dw_derive.proofs.Shards.{left, right}
-use Rattle.dw_audit.specs.WorldOf.{is_shard_number, is_shard_end, is_shard}
+use Rattle.dw_audit.specs.WorldOf.{is_shard_end, is_shard}
 use Rattle.dw_audit.proofs.Tests.{both}
 
 -- ---- the numbers 0 to 15

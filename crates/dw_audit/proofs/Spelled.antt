@@ -1,7 +1,6 @@
 -- On cells of table 3 that can be read: they are as they are written.
-use Rattle.std.proofs.Common.{◌≡◌, ◌==◌, ◌&&◌, ℕ, Bool, true, false, cond, List, [], ◌∷◌, length, refl, sym, ap, subst, ◌∙◌, arith}
-use Rattle.std.specs.Prelude.{Option, Some, None, Result, Ok, Err, OnOk, nat_eq}
-use Rattle.std.specs.Option.{option_map}
+use Rattle.std.proofs.Common.{◌≡◌, ◌==◌, ◌&&◌, ℕ, true, List, [], ◌∷◌, length, refl, sym, ap, subst, ◌∙◌, arith}
+use Rattle.std.specs.Prelude.{Some, nat_eq}
 use Rattle.std.specs.FinMap.{insert}
 use Rattle.std.specs.Cmp.Lexicographic.{pointwise, bytes_decides}
 use Rattle.std.proofs.lemmas.Bool.Decides.{nat_tests}
@@ -17,8 +16,7 @@ use Rattle.dw_derive.specs.Meta.{meta_key, meta_slot, field_row, field_slot, rul
 use Rattle.dw_derive.specs.MetaReaders.{is_in_row, rule_from, field_reading, names_from, grant_reading, RulesHaveOneSpelling, GrantsHaveOneSpelling}
 use Rattle.dw_derive.proofs.Decoding.{map_some}
 use Rattle.dw_derive.proofs.Shards.{left, right}
-use Rattle.dw_audit.specs.declared.meta.Meta.{Meta}
-use Rattle.dw_audit.specs.Meta.{MetaSum, sum_of, with_field, with_grant}
+use Rattle.dw_audit.specs.Meta.{MetaSum, with_field, with_grant}
 use Rattle.dw_audit.proofs.Tests.{if_some}
 
 empty_is : (xs : List ℕ) → (length xs == 0) ≡ true → xs ≡ []

@@ -1,24 +1,21 @@
 -- On the world that tables stand for: it keeps the rules of a world.
-use Rattle.std.proofs.Common.{◌≡◌, ◌≢◌, ◌↔◌, ◌≤◌, ◌<◌, ◌-◌, ◌^◌, ◌&&◌, ◌||◌, ◌==◌, ℕ, Bool, true, false, not, nat_le, nat_lt, List, [], ◌∷◌, refl, sym, ap, subst, ◌∙◌, arith}
-use Rattle.std.specs.Prelude.{filter, max}
+use Rattle.std.proofs.Common.{◌≡◌, ◌↔◌, ◌≤◌, ◌<◌, ◌-◌, ◌^◌, ◌&&◌, ℕ, Bool, true, false, nat_le, nat_lt, List, [], ◌∷◌, refl, sym, ap, ◌∙◌, arith}
+use Rattle.std.specs.Prelude.{filter}
 use Rattle.std.specs.List.{list_any, flat_map, AllByRecursion}
-use Rattle.std.specs.FinMap.{get}
-use Rattle.std.specs.FinSet.{contains, from_list, contains-from_list}
+use Rattle.std.specs.FinSet.{contains, contains-from_list}
 use Rattle.std.proofs.lemmas.Bool.Decides.{nat_tests}
 use Rattle.dw_dict.specs.Dictionary.{Dictionary}
 use Rattle.dw_event.specs.Take.{Event}
 use Rattle.dw_outside.specs.declared.slot.Slot.{Slot}
-use Rattle.dw_outside.specs.Tables.{Tables, slot_cmp, is_slot}
+use Rattle.dw_outside.specs.Tables.{Tables, is_slot}
 use Rattle.dw_outside.proofs.CellMaps.{slots_total, same_slot}
 use Rattle.dw_derive.specs.Entries.{slots_of}
 use Rattle.dw_derive.specs.Tables.{gives}
-use Rattle.dw_derive.specs.Lawful.{HasEvents, IsWorld}
 use Rattle.dw_derive.specs.MetaTables.{last_of, dict_of}
-use Rattle.dw_derive.specs.World.{World}
 use Rattle.dw_derive.proofs.Lists.{any_flat, any_alike}
 use Rattle.dw_derive.proofs.Sets.{any_filtered}
 use Rattle.dw_derive.proofs.Shards.{left, right}
-use Rattle.dw_audit.specs.WorldOf.{begins_with_one, is_older, older_slots, is_batch, is_kept, stored_events, greatest_batch, last_for, world_of}
+use Rattle.dw_audit.specs.WorldOf.{is_older, older_slots, is_batch, is_kept, stored_events, greatest_batch, last_for, world_of}
 use Rattle.dw_audit.specs.Laws.{TablesStandForWorlds}
 use Rattle.dw_audit.proofs.Tests.{all_weaker}
 use Rattle.dw_audit.proofs.KeptEvents.{stored_lawful, stored_ascend, stored_kept}

@@ -15,8 +15,8 @@ use Rattle.dw_outside.specs.declared.slot.Slot.{Slot}
 use Rattle.dw_outside.specs.Tables.{Tables, slot_cmp, is_in_span, span_of}
 use Rattle.dw_outside.proofs.Batches.{first_part, second_part}
 use Rattle.dw_audit.specs.declared.comparing.Difference.{Difference}
-use Rattle.dw_audit.specs.Comparing.{wanted_beside, IsAlike, IsCompared, IsFirstIn}
-use Rattle.dw_audit.proofs.Differing.{Verdict, First}
+use Rattle.dw_audit.specs.Comparing.{wanted_beside, IsCompared}
+use Rattle.dw_audit.proofs.Differing.{Verdict}
 
 le_any : (xs : List ℕ) → is_le (slice_cmp nat_cmp [] xs) ≡ true
 le_any [] = refl

@@ -3,6 +3,7 @@
 
 mod auditing;
 mod comparing;
+mod laws;
 mod making;
 mod meta;
 mod rules;
@@ -11,4 +12,7 @@ mod verdict;
 
 pub use auditing::audit;
 pub use dw_base::OutOfMemory;
+pub use laws::{
+    changes_are_sound, sound_tables_are_of_worlds, tables_stand_for_worlds, worlds_are_read,
+};
 pub use verdict::Verdict;

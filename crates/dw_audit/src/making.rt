@@ -28,12 +28,7 @@ pub struct Made {
 }
 
 /// Adds an event, where that is kept.
-fn add_event(
-    alloc: Global,
-    made: &mut Made,
-    dict: &Dict,
-    event: &Event,
-) -> Result<(), OutOfMemory>
+fn add_event(alloc: Global, made: &mut Made, dict: &Dict, event: &Event) -> Result<(), OutOfMemory>
     ensures { OnOk result (made_of made.new ≡ made_with dict.now (event_of event.now) (made_of made.old)) }
 {
     if is_kept(alloc, event)? {
@@ -84,11 +79,7 @@ fn numbered(alloc: Global, made: Made, said: u64) -> Result<Store, OutOfMemory>
 }
 
 /// The tables of the world that the cells of the tables 0 and 3 stand for, with each list in the newer form.
-pub fn newer_tables(
-    alloc: Global,
-    shard: &[Cell],
-    meta: &[Cell],
-) -> Result<Store, OutOfMemory>
+pub fn newer_tables(alloc: Global, shard: &[Cell], meta: &[Cell]) -> Result<Store, OutOfMemory>
     ensures { (t : Tables) → list_map cell_pair shard.now ≡ span_of 0 [] [] t → list_map cell_pair meta.now ≡ meta_of t → IfOk result (λ s. s ≡ newer_tables_of t) }
 {
     events_are_steps();

@@ -9,8 +9,10 @@ ghost use Rattle.dw_derive.specs.MetaReaders.{commit_reading, field_reading, gra
 ghost use Rattle.dw_audit.specs.Meta.{sum_of, nothing_said, with_field, with_grant, with_number, with_cell, all_said};
 
 use crate::OutOfMemory;
-use dw_derive::{codes_are_read, commit_number, field_rule, grant_names, key_of};
-use dw_derive::{grants_have_one_spelling, rules_have_one_spelling};
+use dw_derive::{
+    codes_are_read, commit_number, field_rule, grant_names, grants_have_one_spelling, key_of,
+    rules_have_one_spelling,
+};
 use dw_dict::Dict;
 use dw_key::Key;
 use dw_outside::{Cell, Slot, Store};
@@ -51,12 +53,7 @@ fn take_number(meta: &mut Meta, key: &Key, content: &[u8])
     }
 }
 
-fn take_grant(
-    alloc: Global,
-    meta: &mut Meta,
-    key: &Key,
-    cell: &Cell,
-) -> Result<(), OutOfMemory>
+fn take_grant(alloc: Global, meta: &mut Meta, key: &Key, cell: &Cell) -> Result<(), OutOfMemory>
     requires { cell.now.key ≡ code key.now }
     ensures { OnOk result (sum_of meta.new ≡ with_grant (grant_reading key.now cell.now.content) (sum_of meta.old)) }
 {

@@ -96,7 +96,10 @@ fn cell_size(cell: &EventCell) -> usize
     let field = cell.field.as_str().len();
     let raw = cell.raw.as_str().len();
     let vis = cell.vis.text().len();
-    field.saturating_add(raw).saturating_add(vis).saturating_add(3)
+    field
+        .saturating_add(raw)
+        .saturating_add(vis)
+        .saturating_add(3)
 }
 
 fn cells_size(cells: &[EventCell]) -> usize
@@ -116,7 +119,11 @@ fn is_short(event: &Event) -> bool
     let dtype = event.key.dtype.as_slice().len();
     let date = event.shard.as_str().len().min(8);
     let cells = cells_size(event.cells.as_slice());
-    cells.saturating_add(dtype).saturating_add(date).saturating_add(2) <= MAX_CANONICAL
+    cells
+        .saturating_add(dtype)
+        .saturating_add(date)
+        .saturating_add(2)
+        <= MAX_CANONICAL
 }
 
 /// Whether an event counts: its batch, its shard, and the limits on its cells together.

@@ -21,8 +21,8 @@ use crate::OutOfMemory;
 use crate::growing::keep;
 use crate::making::puts_in;
 use dw_derive::{
-    added_are_new, entries_added, events_are_gathered, events_of, field_cell,
-    indexes_are_added, indexes_are_steps, wider_rules_keep_worlds,
+    added_are_new, entries_added, events_are_gathered, events_of, field_cell, indexes_are_added,
+    indexes_are_steps, wider_rules_keep_worlds,
 };
 use dw_dict::{Dict, FieldRule};
 use dw_event::{Event, Held, Place};

@@ -1,9 +1,7 @@
 use Rattle.std.proofs.Common.{◌≡◌, [], List, map, ap, subst, sym, ◌∙◌}
-use Rattle.std.specs.Prelude.{Option}
 use Rattle.std.proofs.lemmas.Result.{IfOk-weaker}
 use Rattle.dw_outside.specs.declared.cell.Cell.{Cell}
 use Rattle.dw_outside.specs.Tables.{cell_pair, span_of}
-use Rattle.dw_audit.specs.declared.comparing.Difference.{Difference}
 use Rattle.dw_audit.specs.Comparing.{first_difference}
 use Rattle.dw_audit.proofs.Differing.{Verdict, walked}
 use Rattle.dw_audit.proofs.TableSpans.{span_sorted, compared}

@@ -1,4 +1,4 @@
-use Rattle.std.proofs.Common.{◌≡◌, List, map, ap, ◌∙◌}
+use Rattle.std.proofs.Common.{List, map, ap, ◌∙◌}
 use Rattle.dw_outside.specs.declared.cell.Cell.{Cell}
 use Rattle.dw_outside.specs.Tables.{cell_pair}
 use Rattle.dw_audit.proofs.auditing.compare_lists.Goals as goal

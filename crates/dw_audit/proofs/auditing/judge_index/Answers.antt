@@ -1,4 +1,4 @@
-use Rattle.std.proofs.Common.{◌≡◌, sym, subst, ◌∙◌, arith}
+use Rattle.std.proofs.Common.{sym, subst, ◌∙◌, arith}
 use Rattle.dw_audit.specs.Found.{IsVerdict}
 use Rattle.dw_audit.proofs.Judging.{next_found, next_ready}
 use Rattle.dw_audit.proofs.auditing.judge_index.Goals as goal

@@ -1,6 +1,5 @@
-use Rattle.std.proofs.Common.{◌≡◌, List, map, ap, sym, ◌∙◌}
+use Rattle.std.proofs.Common.{◌∙◌}
 use Rattle.std.proofs.lemmas.Result.{IfOk-weaker}
-use Rattle.dw_outside.specs.declared.cell.Cell.{Cell}
 use Rattle.dw_audit.specs.Meta.{sum_of}
 use Rattle.dw_audit.specs.Making.{made_of}
 use Rattle.dw_audit.proofs.Makings.{events_are, newer_made}

@@ -1,4 +1,4 @@
-use Rattle.std.proofs.Common.{◌≡◌, ap, sym, subst, ◌∙◌, Some}
+use Rattle.std.proofs.Common.{◌≡◌, ap, sym, subst, ◌∙◌}
 use Rattle.std.specs.Prelude.{OnOk}
 use Rattle.dw_key.specs.KeyCode.{AreBytes}
 use Rattle.dw_audit.specs.declared.meta.Meta.{Meta}
@@ -18,8 +18,8 @@ returns c =
       | in-None w ↦ always_ok c.match-branch-2.result (ap (λ (x : Meta). sum_of x) w.meta-is ∙ ap (λ o. with_grant o m) (sym (slice ∙ none_of _ _ c.in_ok-grant_names.field-0 w.in-None.is c.in_ok-grant_names.ensures)))
       | in-Some w ↦ subst (λ r. OnOk r (sum_of c.match-branch-2.meta ≡ with_grant reading m)) (sym w.result-is)
           (on_ok w.keep.result
-              (λ h. ap (λ (x : Meta). sum_of x) w.meta-is
-              ∙ grant_kept c.grants_have_one_spelling.ensures m c.args.cell.now.key c.args.cell.now.content c.args.key.now (w.in-Some.field-0.0.now, w.in-Some.field-0.1) w.keep.new.cells
-              c.requires (subst AreBytes c.as_slice.ensures c.are_bytes.ensures) (slice ∙ some_of _ _ c.in_ok-grant_names.field-0 w.in-Some.field-0 w.in-Some.is c.in_ok-grant_names.ensures) h)
-              w.keep.ensures)
+          (λ h. ap (λ (x : Meta). sum_of x) w.meta-is
+          ∙ grant_kept c.grants_have_one_spelling.ensures m c.args.cell.now.key c.args.cell.now.content c.args.key.now (w.in-Some.field-0.0.now, w.in-Some.field-0.1) w.keep.new.cells
+          c.requires (subst AreBytes c.as_slice.ensures c.are_bytes.ensures) (slice ∙ some_of _ _ c.in_ok-grant_names.field-0 w.in-Some.field-0 w.in-Some.is c.in_ok-grant_names.ensures) h)
+          w.keep.ensures)
     ]

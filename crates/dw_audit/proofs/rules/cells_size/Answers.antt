@@ -1,4 +1,4 @@
-use Rattle.std.proofs.Common.{◌≡◌, ◌+◌, ◌-◌, ◌^◌, ◌≤◌, [], drop, length, ap, arith}
+use Rattle.std.proofs.Common.{◌+◌, ◌-◌, ◌^◌, length, ap, arith}
 use Rattle.std.specs.Prelude.{min}
 use Rattle.dw_event.specs.Records.{cells_canon}
 use Rattle.dw_ingest.proofs.Items.{drop_past}

@@ -1,4 +1,4 @@
-use Rattle.std.proofs.Common.{ap, sym, ◌∙◌}
+use Rattle.std.proofs.Common.{ap, ◌∙◌}
 use Rattle.std.specs.Option.{is_some}
 use Rattle.dw_base.specs.Days.{day_digits}
 use Rattle.dw_audit.proofs.ShardNames.{no_day, day_read}

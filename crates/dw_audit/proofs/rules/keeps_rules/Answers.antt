@@ -1,4 +1,4 @@
-use Rattle.std.proofs.Common.{◌≡◌, Bool, true, ap, sym, ◌∙◌, ◌&&◌, List, ℕ}
+use Rattle.std.proofs.Common.{◌≡◌, true, ap, sym, ◌∙◌, ◌&&◌}
 use Rattle.std.specs.Str.{is_utf8}
 use Rattle.dw_base.specs.FieldNames.{is_folded_name}
 use Rattle.dw_vis.specs.Test.{is_vis}
