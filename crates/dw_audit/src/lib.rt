@@ -16,3 +16,6 @@ pub use laws::{
     changes_are_sound, sound_tables_are_of_worlds, tables_stand_for_worlds, worlds_are_read,
 };
 pub use verdict::Verdict;
+
+#[cfg(test)]
+mod tests;
