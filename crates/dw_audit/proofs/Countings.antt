@@ -22,7 +22,7 @@ use Rattle.dw_derive.specs.UidLists.{IsUid}
 use Rattle.dw_derive.proofs.Decoding.{and_then_some, map_some}
 use Rattle.dw_derive.proofs.Shards.{left}
 use Rattle.dw_audit.specs.WorldOf.{code_counts, slot_counts}
-use Rattle.dw_audit.proofs.Tests.{only_some, if_some}
+use Rattle.dw_audit.proofs.Passing.{only_some, if_some}
 
 -- ---- the bytes that hexadecimal digits spell
 

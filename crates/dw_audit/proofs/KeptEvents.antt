@@ -31,7 +31,7 @@ use Rattle.dw_derive.proofs.Shards.{left, right}
 use Rattle.dw_derive.proofs.WholeDocuments.{cells_total}
 use Rattle.dw_ingest.proofs.EntryTables.{all_items}
 use Rattle.dw_audit.specs.WorldOf.{is_shard, is_batch, is_kept, readings_in, slot_counts, stored_events}
-use Rattle.dw_audit.proofs.Tests.{all_found, all_by_tests, all_map, all_filter, ascend_filtered, some_there, or_left, or_right, and_true, both}
+use Rattle.dw_audit.proofs.Passing.{all_found, all_by_tests, all_map, all_filter, ascend_filtered, some_there, or_left, or_right, and_true, both}
 use Rattle.dw_audit.proofs.ShardNames.{shard_is, shard_day}
 use Rattle.dw_audit.proofs.Countings.{Counts, counted_is}
 

@@ -1,4 +1,4 @@
-pub mod Tests
+pub mod Passing
 pub mod ShardNames
 pub mod Countings
 pub mod Spelled

@@ -32,7 +32,7 @@ use Rattle.dw_ingest.proofs.NewIndexes.{same_events, keys_of_pairs}
 use Rattle.dw_audit.specs.WorldOf.{is_kept, code_counts, readings_in, stored_events, greatest_batch, last_for, world_of}
 use Rattle.dw_audit.specs.Meta.{MetaSum, nothing_said, with_field, with_grant, with_number, all_said}
 use Rattle.dw_audit.specs.Making.{MadeSum, made_by, numbered, newer_tables}
-use Rattle.dw_audit.proofs.Tests.{all_weaker}
+use Rattle.dw_audit.proofs.Passing.{all_weaker}
 use Rattle.dw_audit.proofs.KeptEvents.{events_ascend, stored_lawful, stored_ascend}
 use Rattle.dw_audit.proofs.StoodFor.{stored_numbered}
 

@@ -24,7 +24,7 @@ use Rattle.dw_derive.proofs.Shards.{right}
 use Rattle.dw_derive.proofs.MetaSpellings.{names-none, names-full, names-cut, names-more}
 use Rattle.dw_derive.proofs.MetaTableLemmas.{all_inserted}
 use Rattle.dw_derive.proofs.UidListLemmas.{is_ascending}
-use Rattle.dw_audit.proofs.Tests.{if_some, only_some, all_found}
+use Rattle.dw_audit.proofs.Passing.{if_some, only_some, all_found}
 
 -- ---- maps of entries
 

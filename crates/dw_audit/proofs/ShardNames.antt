@@ -15,7 +15,7 @@ use Rattle.dw_base.specs.Days.{names_day, day_digits, is_dashed, without_dashes}
 use Rattle.dw_derive.specs.Lawful.{IsShardOf}
 use Rattle.dw_derive.proofs.Shards.{left, right}
 use Rattle.dw_audit.specs.WorldOf.{is_shard_end, is_shard}
-use Rattle.dw_audit.proofs.Tests.{both}
+use Rattle.dw_audit.proofs.Passing.{both}
 
 -- ---- the numbers 0 to 15
 

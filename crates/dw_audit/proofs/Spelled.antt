@@ -17,7 +17,7 @@ use Rattle.dw_derive.specs.MetaReaders.{is_in_row, rule_from, field_reading, nam
 use Rattle.dw_derive.proofs.Decoding.{map_some}
 use Rattle.dw_derive.proofs.Shards.{left, right}
 use Rattle.dw_audit.specs.Meta.{MetaSum, with_field, with_grant}
-use Rattle.dw_audit.proofs.Tests.{if_some}
+use Rattle.dw_audit.proofs.Passing.{if_some}
 
 empty_is : (xs : List ℕ) → (length xs == 0) ≡ true → xs ≡ []
 empty_is [] h = refl

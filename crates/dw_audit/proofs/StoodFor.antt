@@ -17,7 +17,7 @@ use Rattle.dw_derive.proofs.Sets.{any_filtered}
 use Rattle.dw_derive.proofs.Shards.{left, right}
 use Rattle.dw_audit.specs.WorldOf.{is_older, older_slots, is_batch, is_kept, stored_events, greatest_batch, last_for, world_of}
 use Rattle.dw_audit.specs.Laws.{TablesStandForWorlds}
-use Rattle.dw_audit.proofs.Tests.{all_weaker}
+use Rattle.dw_audit.proofs.Passing.{all_weaker}
 use Rattle.dw_audit.proofs.KeptEvents.{stored_lawful, stored_ascend, stored_kept}
 use Rattle.dw_audit.proofs.ReadMeta.{fields_keep, grants_keep, last_below}
 

@@ -37,7 +37,7 @@ use Rattle.dw_derive.proofs.WholeWorlds.{reads_of_world, events_are_read, each_c
 use Rattle.dw_audit.specs.WorldOf.{code_counts, readings_in, is_batch, is_kept, is_shard, stored_events, greatest_batch, last_for, begins_with_one, is_older, older_slots, world_of}
 use Rattle.dw_audit.specs.Sound.{AreSound}
 use Rattle.dw_audit.specs.Laws.{IsReadAgain, WorldsAreRead, HasFourTables, SoundTablesAreOfWorlds}
-use Rattle.dw_audit.proofs.Tests.{all_kept, all_weaker, both, none_or, only_true}
+use Rattle.dw_audit.proofs.Passing.{all_kept, all_weaker, both, none_or, only_true}
 use Rattle.dw_audit.proofs.ShardNames.{is_shard_of}
 use Rattle.dw_audit.proofs.StoodFor.{contains_older}
 

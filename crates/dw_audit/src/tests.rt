@@ -404,44 +404,54 @@ fn list(alloc: Global, form: u8, both: bool) -> Result<Bytes, Fail> {
     Ok(Bytes::from_vec(out))
 }
 
-#[test]
-fn lists_of_uids_are_compared_in_their_form(rt: HostRuntime) -> Result<(), Fail> {
-    let alloc = rt.alloc();
+/// The verdict on the plain store with these bytes in place of its one list.
+fn audit_of_list(alloc: Global, found: &[u8]) -> Result<Verdict, Fail> {
     let mut keeper = plain_store(alloc)?;
+    let mut other = damaged(alloc, &mut keeper, 1, 0, Some(found))?;
+    Ok(audit(alloc, &mut other)?)
+}
+
+/// Whether these bytes are the difference, in whose place those are wanted.
+fn list_differs(alloc: Global, found: &[u8], wanted: &[u8]) -> Result<bool, Fail> {
     let at = key(alloc, b"x", b"A", b"20240101_0\0lab", b"", 0)?;
-    let newer = list(alloc, 2, true)?;
-    let older = list(alloc, 1, true)?;
-    let (newer_short, older_short) = (list(alloc, 2, false)?, list(alloc, 1, false)?);
-    let cases: [(&[u8], bool); 12] = [
-        (b"", false),
-        (b"\x03\0", false),
-        (b"\x02\0", false),
-        (b"\x02\x02", false),
-        (b"\x02\0\x33", false),
-        (b"\x02\x01\0\0\0\0\0\0\0\x02", false),
-        (b"\x02\x01\0\0\0\0\0\0\0\x33", false),
-        (newer_short.as_slice(), false),
-        (b"\x01\0", true),
-        (b"\x01\0\0", true),
-        (b"\x01\x01\0\0\0\0\0\0\0\x15", true),
-        (older_short.as_slice(), true),
-    ];
-    for (found, is_older) in cases {
-        let wanted = if is_older { &older } else { &newer };
-        let mut other = damaged(alloc, &mut keeper, 1, 0, Some(found))?;
-        let verdict = audit(alloc, &mut other)?;
-        assert!(rt;
-            shows(
-                &verdict,
-                1,
-                at.as_slice(),
-                Some(found),
-                Some(wanted.as_slice())
-            )
-        );
+    let verdict = audit_of_list(alloc, found)?;
+    Ok(shows(&verdict, 1, at.as_slice(), Some(found), Some(wanted)))
+}
+
+#[test]
+fn lists_are_wanted_in_the_newer_form(rt: HostRuntime) -> Result<(), Fail> {
+    let alloc = rt.alloc();
+    let wanted = list(alloc, 2, true)?;
+    let short = list(alloc, 2, false)?;
+    assert!(rt; list_differs(alloc, short.as_slice(), wanted.as_slice())?);
+    for found in [
+        b"".as_slice(),
+        b"\x03\0".as_slice(),
+        b"\x02\0".as_slice(),
+        b"\x02\x02".as_slice(),
+        b"\x02\0\x33".as_slice(),
+        b"\x02\x01\0\0\0\0\0\0\0\x02".as_slice(),
+        b"\x02\x01\0\0\0\0\0\0\0\x33".as_slice(),
+    ] {
+        assert!(rt; list_differs(alloc, found, wanted.as_slice())?);
     }
-    let mut other = damaged(alloc, &mut keeper, 1, 0, Some(older.as_slice()))?;
-    assert!(rt; is_sound(&audit(alloc, &mut other)?));
+    Ok(())
+}
+
+#[test]
+fn a_list_of_the_older_form_is_wanted_in_it(rt: HostRuntime) -> Result<(), Fail> {
+    let alloc = rt.alloc();
+    let wanted = list(alloc, 1, true)?;
+    assert!(rt; is_sound(&audit_of_list(alloc, wanted.as_slice())?));
+    let short = list(alloc, 1, false)?;
+    assert!(rt; list_differs(alloc, short.as_slice(), wanted.as_slice())?);
+    for found in [
+        b"\x01\0".as_slice(),
+        b"\x01\0\0".as_slice(),
+        b"\x01\x01\0\0\0\0\0\0\0\x15".as_slice(),
+    ] {
+        assert!(rt; list_differs(alloc, found, wanted.as_slice())?);
+    }
     Ok(())
 }
 

@@ -1,7 +1,7 @@
 use Rattle.std.proofs.Common.{ap, sym, ◌∙◌}
 use Rattle.dw_derive.specs.MetaReaders.{field_reading}
 use Rattle.dw_audit.specs.Meta.{sum_of}
-use Rattle.dw_audit.proofs.Tests.{on_ok}
+use Rattle.dw_audit.proofs.Passing.{on_ok}
 use Rattle.dw_audit.proofs.Spelled.{field_kept}
 use Rattle.dw_audit.proofs.meta.take_field.Goals as goal
 

@@ -4,7 +4,7 @@ use Rattle.dw_key.specs.KeyCode.{AreBytes}
 use Rattle.dw_audit.specs.declared.meta.Meta.{Meta}
 use Rattle.dw_audit.specs.Meta.{sum_of, with_grant}
 use Rattle.dw_derive.specs.MetaReaders.{grant_reading}
-use Rattle.dw_audit.proofs.Tests.{on_ok, always_ok, none_of, some_of}
+use Rattle.dw_audit.proofs.Passing.{on_ok, always_ok, none_of, some_of}
 use Rattle.dw_audit.proofs.Spelled.{grant_kept}
 use Rattle.dw_audit.proofs.meta.take_grant.Goals as goal
 use Rattle.dw_audit.proofs.meta.take_grant.Goals.{in-None, in-Some}
