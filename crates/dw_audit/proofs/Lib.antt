@@ -5,6 +5,7 @@ pub mod Spelled
 pub mod SaidLemmas
 pub mod Differing
 pub mod TableSpans
+pub mod ReadingRuns
 pub mod KeptEvents
 pub mod ReadMeta
 pub mod StoodFor

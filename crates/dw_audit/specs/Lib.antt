@@ -3,5 +3,6 @@ pub mod Sound
 pub mod Meta
 pub mod Making
 pub mod Comparing
+pub mod Runs
 pub mod Found
 pub mod Laws

@@ -10,6 +10,7 @@ ghost use Rattle.dw_audit.specs.declared.verdict.Verdict.{Verdict};
 use crate::OutOfMemory;
 use crate::comparing::{Difference, first_difference};
 use crate::making::newer_tables;
+use crate::runs::compare_lists;
 use crate::verdict::Verdict;
 use dw_key::codes_tell_keys;
 use dw_outside::{Cell, Keeper, KeeperError, Store};
@@ -28,25 +29,6 @@ fn compare(
 {
     let others = wanted.span(alloc, table, b"", b"", 0)?;
     first_difference(alloc, lists, cells, others.as_slice())
-}
-
-/// Reads a table of lists, and compares it with the one that is wanted.
-fn compare_lists<K: Keeper>(
-    alloc: Global,
-    keeper: &mut K,
-    table: u8,
-    wanted: &Store,
-) -> Result<Option<Difference>, KeeperError>
-    requires { table ≤ 3 }
-    ensures same { K.told keeper.new ≡ K.told keeper.old }
-    ensures compared { (t : Tables) → K.told keeper.old ≡ Some t → IfOk result (λ o. IsCompared true table t wanted.now o) }
-    ensures unasked { K.asked keeper.new ≡ K.asked keeper.old }
-    ensures counted { K.faults keeper.old ≤ K.faults keeper.new }
-    ensures failed { result ≡ Err KeeperError.Failed → Rose (K.faults keeper.old) (K.faults keeper.new) }
-{
-    let cells = keeper.scan(table, b"", b"", 0)?;
-    let difference = compare(alloc, table, true, cells.as_slice(), wanted)?;
-    Ok(difference)
 }
 
 fn damaged(table: u8, difference: Difference) -> Verdict

@@ -7,6 +7,7 @@ mod laws;
 mod making;
 mod meta;
 mod rules;
+mod runs;
 mod stored;
 mod verdict;
 
