@@ -45,21 +45,32 @@ fn two_records(alloc: Global) -> Result<Vec<Result<Record, BadRecord>>, Fail> {
     Ok(records)
 }
 
-/// A store in which A is indexed, two events were taken in, and ann was granted S.
-fn plain_store(alloc: Global) -> Result<MemKeeper, Fail> {
-    let mut keeper = MemKeeper::without_reads(alloc);
+/// The store with these records, where A is indexed.
+fn stored(
+    alloc: Global,
+    keeper: MemKeeper,
+    records: &[Result<Record, BadRecord>],
+) -> Result<MemKeeper, Fail> {
+    let mut keeper = keeper;
     let rule = FieldRule::of(Kind::Noop, true, false).ok_or("no rule")?;
     let mut dict = Dict::new(alloc);
     dict.define("A", rule)?;
     set(&mut keeper, field_cell(alloc, "A", rule)?)?;
-    let records = two_records(alloc)?;
     if records.len() > 2 {
         return Err(Fail::from("range"));
     }
-    let taken = ingest(alloc, &mut keeper, &MarkUid, &dict, 0, records.as_slice());
+    let taken = ingest(alloc, &mut keeper, &MarkUid, &dict, 0, records);
     if taken.is_err() {
         return Err(Fail::from("an ingest"));
     }
+    Ok(keeper)
+}
+
+/// A store in which A is indexed, two events were taken in, and ann was granted S.
+fn plain_store(alloc: Global) -> Result<MemKeeper, Fail> {
+    let records = two_records(alloc)?;
+    let keeper = MemKeeper::without_reads(alloc);
+    let mut keeper = stored(alloc, keeper, records.as_slice())?;
     let mut names = Names::new(alloc);
     names.put(Text::of(alloc, "S")?)?;
     if names
@@ -512,6 +523,61 @@ fn the_last_number_is_at_least_each_batch(rt: HostRuntime) -> Result<(), Fail> {
     set(&mut empty, commit_cell(alloc, 1)?)?;
     let verdict = audit(alloc, &mut empty)?;
     assert!(rt; shows(&verdict, 3, commit.as_slice(), Some(one), None));
+    Ok(())
+}
+
+/// A store of one event with so many values of an indexed field, which tells its reads.
+fn wide_store(alloc: Global, count: u32) -> Result<MemKeeper, Fail> {
+    let mut cells = Cells::new(alloc);
+    for value in 0..count {
+        let raw = format!(in alloc; "{value}")?;
+        cells.put(EventCell {
+            field: Text::of(alloc, "A")?,
+            raw: Text::from_string(raw),
+            vis: Vis::everyone(alloc),
+        })?;
+    }
+    let mut records = Vec::new(alloc);
+    records.push(Ok(Record {
+        dtype: DType::of(b"lab").ok_or("no type")?,
+        date: Text::of(alloc, "20240101")?,
+        cells,
+    }))?;
+    stored(
+        alloc,
+        MemKeeper::new(alloc, Vec::new(alloc)),
+        records.as_slice(),
+    )
+}
+
+/// The tables of the reads that were made.
+fn tables_read(alloc: Global, keeper: &MemKeeper) -> Result<Vec<u8>, Fail> {
+    let mut tables = Vec::new(alloc);
+    for read in keeper.reads() {
+        tables.push(read.table)?;
+    }
+    Ok(tables)
+}
+
+#[test]
+fn lists_are_read_in_runs(rt: HostRuntime) -> Result<(), Fail> {
+    let alloc = rt.alloc();
+    let mut keeper = wide_store(alloc, 1_030)?;
+    let before = keeper.reads().len();
+    assert!(rt; is_sound(&audit(alloc, &mut keeper)?));
+    let tables = tables_read(alloc, &keeper)?;
+    assert!(rt;
+        tables
+            .as_slice()
+            .iter()
+            .skip(before)
+            .eq([3, 0, 1, 1, 2].iter())
+    );
+    for at in [0usize, 1_023, 1_024, 1_029] {
+        let mut other = damaged(alloc, &mut keeper, 1, at, None)?;
+        let verdict = audit(alloc, &mut other)?;
+        assert!(rt; place_found(&mut keeper, &verdict) == Some((1, at, false, true)));
+    }
     Ok(())
 }
 

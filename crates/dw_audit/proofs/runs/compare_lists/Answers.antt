@@ -1,4 +1,4 @@
-use Rattle.std.proofs.Common.{◌≡◌, List, ℕ, ap, sym, ◌∙◌}
+use Rattle.std.proofs.Common.{List, ℕ, ap, sym, ◌∙◌}
 use Rattle.dw_audit.specs.Runs.{difference_from}
 use Rattle.dw_audit.proofs.ReadingRuns.{run_is, whole_compared}
 use Rattle.dw_audit.proofs.runs.compare_lists.Goals as goal
