@@ -39,7 +39,7 @@ held_some p h (r ∷ rs) = at (λ k. held_some p k rs) (is_of p r)
     at next false = next h
 
 -- the set of the cells of the place, and the first batch
-held_none : (p : Place) (rs : List CellReading) → held_after p None rs ≡ cond (list_any (is_of p) rs) (Some (event_at rs p).1) None
+pub held_none : (p : Place) (rs : List CellReading) → held_after p None rs ≡ cond (list_any (is_of p) rs) (Some (event_at rs p).1) None
 held_none p [] = refl
 held_none p (r ∷ rs) = at (is_of p r) (held_none p rs)
   where
@@ -55,7 +55,7 @@ find_at : (p : Place) (es : List Event) → lookup (is_at (place_cmp p)) es ≡ 
 find_at p [] = refl
 find_at p (e ∷ es) = ap (cond (eq_by_cmp place_cmp p e.0) (Some e.1)) (find_at p es)
 
-held_of_events : (p : Place) (rs : List CellReading) → held_at (events_of rs) p ≡ cond (list_any (is_of p) rs) (Some (event_at rs p).1) None
+pub held_of_events : (p : Place) (rs : List CellReading) → held_at (events_of rs) p ≡ cond (list_any (is_of p) rs) (Some (event_at rs p).1) None
 held_of_events p rs =
     find_at p (events_of rs)
     ∙ find_of exact_places (λ q. (event_at rs q).1) (set_of place_cmp (map (λ r. r.place) rs)) p
@@ -68,35 +68,36 @@ le_any : (xs : List ℕ) → is_le (slice_cmp nat_cmp [] xs) ≡ true
 le_any [] = refl
 le_any (x ∷ xs) = refl
 
-abbrev first : List ℕ × List ℕ → List ℕ
+abbrev pub first : List ℕ × List ℕ → List ℕ
 first c = c.0
 
-abbrev cell : Slot × List ℕ → List ℕ × List ℕ
+abbrev pub cell : Slot × List ℕ → List ℕ × List ℕ
 cell e = (e.0.key, e.1)
 
-abbrev slot : Slot × List ℕ → Slot
+abbrev pub slot : Slot × List ℕ → Slot
 slot e = e.0
 
-abbrev in_first : Slot × List ℕ → Bool
+abbrev pub in_first : Slot × List ℕ → Bool
 in_first e = (e.0.table == 0) && is_in_span [] [] e.0.key
 
-said_codes : (es : List (Slot × List ℕ)) → filter_map code_says (map first (map cell (filter in_first es))) ≡ filter_map slot_says (map slot es)
-said_codes [] = refl
-said_codes (e ∷ es) =
-    ap (λ t. filter_map code_says (map first (map cell (cond ((e.0.table == 0) && t) (e ∷ rest) rest)))) (le_any e.0.key)
-    ∙ at (e.0.table == 0) (said_codes es)
+-- what the keys of table 0 say is what the slots say
+pub said_codes : {A : Type 0} (f : List ℕ → Option A) (es : List (Slot × List ℕ)) → filter_map f (map first (map cell (filter in_first es))) ≡ filter_map (λ (s : Slot). cond (s.table == 0) (f s.key) None) (map slot es)
+said_codes f [] = refl
+said_codes {A = A} f (e ∷ es) =
+    ap (λ t. filter_map f (map first (map cell (cond ((e.0.table == 0) && t) (e ∷ rest) rest)))) (le_any e.0.key)
+    ∙ at (e.0.table == 0) (said_codes f es)
   where
     rest : List (Slot × List ℕ)
     rest = filter in_first es
 
-    at : (b : Bool) → filter_map code_says (map first (map cell rest)) ≡ filter_map slot_says (map slot es)
-        → filter_map code_says (map first (map cell (cond (b && true) (e ∷ rest) rest))) ≡ cons_option (cond b (code_says e.0.key) None) (filter_map slot_says (map slot es))
-    at true r = ap (cons_option (code_says e.0.key)) r
+    at : (b : Bool) → filter_map f (map first (map cell rest)) ≡ filter_map (λ (s : Slot). cond (s.table == 0) (f s.key) None) (map slot es)
+        → filter_map f (map first (map cell (cond (b && true) (e ∷ rest) rest))) ≡ cons_option (cond b (f e.0.key) None) (filter_map (λ (s : Slot). cond (s.table == 0) (f s.key) None) (map slot es))
+    at true r = ap (cons_option (f e.0.key)) r
     at false r = r
 
 pub events_are_gathered : EventsAreGathered
 events_are_gathered w has p =
-    ap (held_after p None) (said_codes (entries (tables w)))
+    ap (held_after p None) (said_codes code_says (entries (tables w)))
     ∙ held_none p (filter_map slot_says (keys (tables w)))
     ∙ sym (held_of_events p (filter_map slot_says (keys (tables w))))
     ∙ ap (λ es. held_at es p) (events_are_read w has)

@@ -142,7 +142,7 @@ module _ (slots : Event → List Slot) (s : Slot) (one : OneShard slots s) where
       at false e = let more : cap form < length us = le_false (length us) (cap form) e in let few : cap form ≤ 50 = small form in (omega arith, omega arith)
 
   -- the list of a slot that is given is read back
-  read_again : (es : List Event) → IsStrictlySortedBy place_cmp (keys_of es) → AllByRecursion IsEvent es → list_any (gives slots s) es ≡ true → (form : Form) → list_read (list_bytes form (list_of form (uids_of es))) ≡ Ok (form, list_of form (uids_of es))
+  pub read_again : (es : List Event) → IsStrictlySortedBy place_cmp (keys_of es) → AllByRecursion IsEvent es → list_any (gives slots s) es ≡ true → (form : Form) → list_read (list_bytes form (list_of form (uids_of es))) ≡ Ok (form, list_of form (uids_of es))
   read_again es up lawful any form =
       let given : AllByRecursion Gives (givers slots es s) = all_pass IsEvent Gives (gives slots s) (λ d i h. (i, h)) es lawful in
       list_read_back form (list_of form (uids_of es)) (listed form (uids_of es) (some es any)

@@ -581,7 +581,7 @@ module _ (e : Event) where
   all_before P [] rest h = (tt, h.0)
   all_before P (d ∷ done) rest h = let r = all_before P done rest h.1 in ((h.0, r.0), r.1)
 
-  before : (done rest : List Event) → IsStrictlySortedBy place_cmp (keys_of (done ++ e ∷ rest)) → IsStrictlySortedBy place_cmp (keys_of done) × AllByRecursion (λ (d : Event). place_cmp d.0 e.0 ≡ Less) done
+  pub before : (done rest : List Event) → IsStrictlySortedBy place_cmp (keys_of (done ++ e ∷ rest)) → IsStrictlySortedBy place_cmp (keys_of done) × AllByRecursion (λ (d : Event). place_cmp d.0 e.0 ≡ Less) done
   unfolding IsStrictlySortedBy
   before [] rest h = (tt, tt)
   before (d ∷ done) rest h =
@@ -589,20 +589,20 @@ module _ (e : Event) where
       let more = before done rest h.1 in
       ((first.0, more.0), (first.1, more.1))
 
-  above : (d : Event) → place_cmp d.0 e.0 ≡ Less → place_cmp e.0 d.0 ≡ Greater
+  pub above : (d : Event) → place_cmp d.0 e.0 ≡ Less → place_cmp e.0 d.0 ≡ Greater
   above d h = places_total.antisymm e.0 d.0 ∙ ap ordering_reverse h
 
-  none_at : (done : List Event) → AllByRecursion (λ (d : Event). place_cmp d.0 e.0 ≡ Less) done → NonePasses (is_at (place_cmp e.0)) done
+  pub none_at : (done : List Event) → AllByRecursion (λ (d : Event). place_cmp d.0 e.0 ≡ Less) done → NonePasses (is_at (place_cmp e.0)) done
   none_at [] h = tt
   none_at (d ∷ done) h = (ap is_eq (above d h.0), none_at done h.1)
 
-  insert_last : (done : List Event) → AllByRecursion (λ (d : Event). place_cmp d.0 e.0 ≡ Less) done → insert_entry place_cmp done e.0 e.1 ≡ done ++ e ∷ []
+  pub insert_last : (done : List Event) → AllByRecursion (λ (d : Event). place_cmp d.0 e.0 ≡ Less) done → insert_entry place_cmp done e.0 e.1 ≡ done ++ e ∷ []
   insert_last [] h = refl
   insert_last (d ∷ done) h =
       ap (λ o. match_ordering o ((e.0, e.1) ∷ d ∷ done) ((d.0, e.1) ∷ done) (d ∷ insert_entry place_cmp done e.0 e.1)) (above d h.0)
       ∙ ap (λ (es : List Event). d ∷ es) (insert_last done h.1)
 
-  lawful_parts : (done rest : List Event) → AllByRecursion IsEvent (done ++ e ∷ rest) → AllByRecursion IsEvent done × IsEvent e
+  pub lawful_parts : (done rest : List Event) → AllByRecursion IsEvent (done ++ e ∷ rest) → AllByRecursion IsEvent done × IsEvent e
   lawful_parts [] rest h = (tt, h.0)
   lawful_parts (d ∷ done) rest h = let r = lawful_parts done rest h.1 in ((h.0, r.0), r.1)
 

@@ -32,8 +32,9 @@ use Rattle.dw_derive.specs.Entries.{event_key, field_key, forward_entries, backw
 use Rattle.dw_derive.specs.Decoded.{key_from}
 use Rattle.dw_derive.specs.EventsRead.{CellReading, with_cell_of, key_says, slot_says, is_of, first_batch, event_at, events_of, events_in, EventsAreRead, TablesTellEvents}
 use Rattle.dw_derive.specs.ReaderLaws.{IsDocKey, IsPlainText}
+use Rattle.dw_derive.specs.World.{World}
 use Rattle.dw_derive.specs.Tables.{tables}
-use Rattle.dw_derive.specs.Lawful.{record_of, IsEvent}
+use Rattle.dw_derive.specs.Lawful.{record_of, IsEvent, HasEvents}
 use Rattle.dw_derive.proofs.Lists.{any_mapped, any_flat, any_alike}
 use Rattle.dw_derive.proofs.Sets.{any_filtered, any_filter_map, any_set, set_ascends, same_sorted}
 use Rattle.dw_derive.proofs.Shards.{left, right, KeepsRules, rules_of, shard_is_text}
@@ -46,19 +47,19 @@ use Rattle.dw_derive.proofs.WholeDocuments.{cells_total}
 
 -- ---- lists
 
-all_both : {A : Type 0} (P Q : A → Type 0) (xs : List A) → AllByRecursion P xs → AllByRecursion Q xs → AllByRecursion (λ x. P x × Q x) xs
+pub all_both : {A : Type 0} (P Q : A → Type 0) (xs : List A) → AllByRecursion P xs → AllByRecursion Q xs → AllByRecursion (λ x. P x × Q x) xs
 all_both P Q [] h k = tt
 all_both P Q (x ∷ xs) h k = ((h.0, k.0), all_both P Q xs h.1 k.1)
 
-all_weaker : {A : Type 0} (P Q : A → Type 0) → ((x : A) → P x → Q x) → (xs : List A) → AllByRecursion P xs → AllByRecursion Q xs
+pub all_weaker : {A : Type 0} (P Q : A → Type 0) → ((x : A) → P x → Q x) → (xs : List A) → AllByRecursion P xs → AllByRecursion Q xs
 all_weaker P Q f [] h = tt
 all_weaker P Q f (x ∷ xs) h = (f x h.0, all_weaker P Q f xs h.1)
 
-any_alike_all : {A : Type 0} (P : A → Type 0) (p q : A → Bool) → ((x : A) → P x → p x ≡ q x) → (xs : List A) → AllByRecursion P xs → list_any p xs ≡ list_any q xs
+pub any_alike_all : {A : Type 0} (P : A → Type 0) (p q : A → Bool) → ((x : A) → P x → p x ≡ q x) → (xs : List A) → AllByRecursion P xs → list_any p xs ≡ list_any q xs
 any_alike_all P p q f [] h = refl
 any_alike_all P p q f (x ∷ xs) h = ap (λ b. b || list_any p xs) (f x h.0) ∙ ap (λ b. q x || b) (any_alike_all P p q f xs h.1)
 
-none_any : {A : Type 0} (xs : List A) → list_any (λ _. false) xs ≡ false
+pub none_any : {A : Type 0} (xs : List A) → list_any (λ _. false) xs ≡ false
 none_any [] = refl
 none_any (x ∷ xs) = none_any xs
 
@@ -122,13 +123,13 @@ module _ {K X : Type 0} (R : K → K → Ordering) (o : IsTotalOrder R) where
 rules : (e : Event) → IsEvent e → KeepsRules (record_of e)
 rules e i = rules_of (record_of e) i.rules.rules
 
-each_cell : (cells : List EventCell) → list_all is_cell cells ≡ true → AllByRecursion (λ (c : EventCell). is_cell c ≡ true) cells
+pub each_cell : (cells : List EventCell) → list_all is_cell cells ≡ true → AllByRecursion (λ (c : EventCell). is_cell c ≡ true) cells
 each_cell [] h = tt
 each_cell (c ∷ cells) h = (left (is_cell c) (list_all is_cell cells) h, each_cell cells (right (is_cell c) (list_all is_cell cells) h))
 
 -- ---- what is read of a cell
 
-abbrev reading_of : Event → EventCell → CellReading
+abbrev pub reading_of : Event → EventCell → CellReading
 reading_of e c = record { place = e.0; cell = c; batch = e.1.batch }
 
 event_says : (e : Event) (c : EventCell) → IsEvent e → is_cell c ≡ true → slot_says (slot_of (record { table = 0; key = event_key e c })) ≡ Some (reading_of e c)
@@ -147,7 +148,7 @@ field_says : (e : Event) (c : EventCell) (v : List ℕ) → IsEvent e → slot_s
 field_says e c v i = ap (option_and_then key_says) (key_of_code (field_key e c v) i.most)
 
 -- the readings are those of the cells of the events, as far as a test can tell
-abbrev Reads : List CellReading → List Event → Type 0
+abbrev pub Reads : List CellReading → List Event → Type 0
 Reads rs events = (test : CellReading → Bool) → list_any test rs ≡ list_any (λ e. list_any (λ c. test (reading_of e c)) e.1.cells) events
 
 module _ (rs : List CellReading) (events : List Event) (reads : Reads rs events) (ascends : IsStrictlySortedBy place_cmp (keys_of events)) (lawful : AllByRecursion IsEvent events) where
@@ -231,18 +232,21 @@ module _ (test : CellReading → Bool) where
       ∙ any_flat (λ n. on_slot (slot_of n)) (cell_entries dict e) e.1.cells
       ∙ any_alike_all (λ c. is_cell c ≡ true) _ _ (λ c h. sym (any_mapped on_slot slot_of (cell_entries dict e c)) ∙ at_cell dict e i c h) e.1.cells (each_cell e.1.cells (rules e i).cells)
 
-pub events_are_read : EventsAreRead
-events_are_read w has = events_again (filter_map slot_says (keys (tables w))) w.events (λ test.
+-- a test finds a reading of the tables of a world where it finds one of a cell of an event
+pub reads_of_world : (w : World) → HasEvents w → Reads (filter_map slot_says (keys (tables w))) w.events
+reads_of_world w has test =
     any_filter_map test slot_says (keys (tables w))
-    ∙ any_cell w (on_slot test) (λ s t. none_there test s t)
-    ∙ any_alike_all IsEvent _ _ (λ e i. at_event test w.dict e i) w.events has.lawful)
-    has.ascend has.lawful
+    ∙ any_cell w (on_slot test) (λ s t. none_there s t)
+    ∙ any_alike_all IsEvent _ _ (λ e i. at_event test w.dict e i) w.events has.lawful
   where
-    none_there : (test : CellReading → Bool) (s : Slot) → s.table ≡ 3 → option_map_or test (slot_says s) false ≡ false
-    none_there test s t = at s.table t
+    none_there : (s : Slot) → s.table ≡ 3 → option_map_or test (slot_says s) false ≡ false
+    none_there s t = at s.table t
       where
         at : (n : ℕ) → n ≡ 3 → option_map_or test (cond (n == 0) (option_and_then key_says (key_from s.key)) None) false ≡ false
         at n e = ap (λ k. option_map_or test (cond (k == 0) (option_and_then key_says (key_from s.key)) None) false) e
+
+pub events_are_read : EventsAreRead
+events_are_read w has = events_again (filter_map slot_says (keys (tables w))) w.events (reads_of_world w has) has.ascend has.lawful
 
 pub tables_tell_events : TablesTellEvents
 tables_tell_events v w i j e = sym (events_are_read v i) ∙ ap (λ m. events_in (keys m)) e ∙ events_are_read w j

@@ -50,7 +50,7 @@ fn said_by_key(alloc: Global, key: &Key) -> Result<Option<Said>, OutOfMemory>
 }
 
 /// What the code of a key says as that of an event's cell, or None where it is of another form.
-fn said_by(alloc: Global, bytes: &[u8]) -> Result<Option<Said>, OutOfMemory>
+pub fn said_by(alloc: Global, bytes: &[u8]) -> Result<Option<Said>, OutOfMemory>
     ensures { IfOk result (λ o. option_map said_reading o ≡ code_says bytes.now) }
 {
     match key_of(alloc, bytes)? {
@@ -83,7 +83,11 @@ fn held_more(
 }
 
 /// Adds a cell to what is held at its place. After an error the map is not used again.
-fn gather(alloc: Global, events: &mut BTreeMap<Place, Held>, said: Said) -> Result<(), OutOfMemory>
+pub fn gather(
+    alloc: Global,
+    events: &mut BTreeMap<Place, Held>,
+    said: Said,
+) -> Result<(), OutOfMemory>
     ensures held { OnOk result ((p : Place) → get place_cmp events.new p ≡ held_with p (get place_cmp events.old p) (said_reading said)) }
     ensures ordered { OnOk result (IsOrdered place_cmp events.new) }
 {

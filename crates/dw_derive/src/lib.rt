@@ -20,7 +20,7 @@ pub use doc_keys::{doc_key_is_whole, uid_is_whole};
 pub use documents::{cell_of, cells_of, document, document_span, key_of};
 pub use dw_base::OutOfMemory;
 pub use event_cells::{Entry, doc_text, entries, entries_added};
-pub use gathering::events_of;
+pub use gathering::{Said, events_of, gather, said_by};
 pub use index_laws::{
     added_are_new, indexes_are_added, indexes_are_steps, wider_rules_keep_worlds,
 };
@@ -35,7 +35,7 @@ pub use reader_laws::{
     event_keys_are_read, field_keys_are_read, global_keys_are_read, rows_never_meet,
 };
 pub use readers::{
-    EventFields, GlobalFields, IndexFields, event_fields, global_fields, index_fields,
+    EventFields, GlobalFields, IndexFields, event_fields, global_fields, index_fields, text,
 };
 pub use table_laws::{
     cells_are_given, codes_are_read, documents_are_read, events_are_gathered, events_are_read,

@@ -3,6 +3,7 @@
 
 mod growing;
 mod ingesting;
+mod making;
 mod pending;
 mod reindexing;
 mod standing;
@@ -10,7 +11,8 @@ mod tally;
 
 pub use dw_base::OutOfMemory;
 pub use ingesting::{IngestError, LAST_BATCH, ingest};
-pub use reindexing::{ReindexError, reindex};
+pub use making::put_event;
+pub use reindexing::{ReindexError, event_at, reindex};
 
 #[cfg(test)]
 mod tests;

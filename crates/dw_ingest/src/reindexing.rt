@@ -18,16 +18,15 @@ ghost use Rattle.dw_ingest.specs.Ingested.{Asks};
 ghost use Rattle.dw_ingest.specs.Reindexed.{Reindexed, adds_cells};
 
 use crate::OutOfMemory;
-use crate::growing::{keep, more_uids, one_uid};
-use dw_base::Bytes;
+use crate::growing::keep;
+use crate::making::puts_in;
 use dw_derive::{
-    Entry, added_are_new, entries_added, events_are_gathered, events_of, field_cell,
-    indexes_are_added, indexes_are_steps, wider_rules_keep_worlds,
+    added_are_new, entries_added, events_are_gathered, events_of, field_cell, indexes_are_added,
+    indexes_are_steps, wider_rules_keep_worlds,
 };
 use dw_dict::{Dict, FieldRule};
 use dw_event::{Event, Held, Place};
-use dw_key::Uid;
-use dw_outside::{Keeper, KeeperError, Put, Slot, Store};
+use dw_outside::{Keeper, KeeperError, Store};
 use std::alloc::Global;
 use std::collections::BTreeMap;
 
@@ -52,52 +51,6 @@ impl From<KeeperError> for ReindexError {
     }
 }
 
-/// What a slot of an index is to have, of cells that are made from nothing.
-fn list_in(alloc: Global, batch: &Store, slot: &Slot, uid: &Uid) -> Result<Bytes, OutOfMemory>
-    ensures { IfOk result (λ b. b ≡ list_with (map.get batch.now slot.now) uid.now) }
-{
-    match batch.get(slot) {
-        None => one_uid(alloc, uid),
-        Some(bytes) => more_uids(alloc, bytes.as_slice(), uid),
-    }
-}
-
-fn put_in(alloc: Global, batch: &Store, slot: Slot, uid: &Uid) -> Result<Put, OutOfMemory>
-    ensures put { IfOk result (λ p. p ≡ put_of batch.now uid.now slot) }
-    ensures table { IfOk result (λ p. p.table ≡ slot.table) }
-{
-    let content = if slot.table == 0 {
-        Bytes::new(alloc)
-    } else {
-        list_in(alloc, batch, &slot, uid)?
-    };
-    let Slot { table, key } = slot;
-    Ok(Put {
-        table,
-        key,
-        content,
-    })
-}
-
-fn puts_in(
-    alloc: Global,
-    batch: &Store,
-    entries: &[Entry],
-    uid: &Uid,
-) -> Result<Vec<Put>, OutOfMemory>
-    requires { All (λ n. n.table ≤ 3) entries.now }
-    ensures fits { IfOk result (λ v. All (λ p. p.table ≤ 3) v.items) }
-    ensures puts { IfOk result (λ v. v.items ≡ list_map (put_of batch.now uid.now) (list_map slot_of entries.now)) }
-{
-    let mut puts = Vec::new(alloc);
-    for entry in entries {
-        let slot = entry.slot(alloc)?;
-        let put = put_in(alloc, batch, slot, uid)?;
-        keep(&mut puts, put)?;
-    }
-    Ok(puts)
-}
-
 /// Adds the cells that a field's new rule adds for an event.
 fn add_index(
     alloc: Global,
@@ -116,7 +69,7 @@ fn add_index(
     Ok(())
 }
 
-fn event_at(place: Place, held: Held) -> Event
+pub fn event_at(place: Place, held: Held) -> Event
     ensures { event_of result ≡ (place, held) }
 {
     Event {

@@ -2,7 +2,7 @@ use Rattle.std.proofs.Common.{◌≡◌, ◌≤◌, ◌++◌, drop, map}
 use Rattle.std.specs.Prelude.{All}
 use Rattle.dw_derive.specs.Entries.{slot_of}
 use Rattle.dw_derive.specs.Laws.{put_of}
-use Rattle.dw_ingest.proofs.reindexing.puts_in.Given as goal
+use Rattle.dw_ingest.proofs.making.puts_in.Given as goal
 
 abbrev pub invariant-loop-entry : goal.invariant-loop-entry
 invariant-loop-entry l = record {

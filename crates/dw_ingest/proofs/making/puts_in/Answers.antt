@@ -4,7 +4,7 @@ use Rattle.dw_derive.specs.declared.event_cells.Entry.{Entry}
 use Rattle.dw_derive.specs.Entries.{slot_of}
 use Rattle.dw_derive.specs.Laws.{put_of}
 use Rattle.dw_ingest.proofs.Items.{drop_item}
-use Rattle.dw_ingest.proofs.reindexing.puts_in.Goals as goal
+use Rattle.dw_ingest.proofs.making.puts_in.Goals as goal
 
 pub loop-entry-preserved : goal.loop-entry-preserved
 loop-entry-preserved c =

@@ -1,0 +1,16 @@
+pub mod Passing
+pub mod ShardNames
+pub mod Countings
+pub mod Spelled
+pub mod SaidLemmas
+pub mod Differing
+pub mod TableSpans
+pub mod ReadingRuns
+pub mod KeptEvents
+pub mod ReadMeta
+pub mod StoodFor
+pub mod Makings
+pub mod OlderForms
+pub mod Judging
+pub mod WholeAgain
+pub mod Changes
