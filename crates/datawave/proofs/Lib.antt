@@ -4,3 +4,4 @@ pub mod Sessions
 pub mod Feeds
 pub mod Pieces
 pub mod Running
+pub mod Gathering

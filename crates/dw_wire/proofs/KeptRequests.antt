@@ -16,10 +16,11 @@ use Rattle.dw_wire.specs.declared.request.Why.{Why}
 use Rattle.dw_wire.specs.declared.request.Why.TheVariants as why
 use Rattle.dw_wire.specs.QueryTexts.{query_of}
 use Rattle.dw_base.specs.Callers.{is_caller}
-use Rattle.dw_wire.specs.ReadLine.{json_of, bool_at, array_at, texts_at, asked_texts, whole_at, counted_to, needed, needed_query, caller_of, auths_of, asked_auths, asked_types, batch_of, rows_of, rows_batch, rule_of, days_of, size_at, define_with, define_of, grant_with, grant_of, ingest_with, ingest_of, create_as, create_with, create_of, page_with, page_of, close_with, close_of, request_named, request_of, read_line}
-use Rattle.dw_wire.specs.WellFormed.{IsAuthSet, IsSpelt, IsBatch, are_days, are_types, is_counted_to, is_query_number, IsWellFormed}
+use Rattle.dw_wire.specs.ReadLine.{bool_at, array_at, texts_at, asked_texts, whole_at, counted_to, needed, needed_query, caller_of, auths_of, asked_auths, asked_types, rule_of, days_of, size_at, define_with, define_of, grant_with, grant_of, ingest_with, ingest_of, create_as, create_with, create_of, page_with, page_of, close_with, close_of, request_named, request_of, read_line}
+use Rattle.dw_groups.specs.Batches.{json_of, batch_of, rows_of, rows_batch, IsBatch}
+use Rattle.dw_wire.specs.WellFormed.{IsAuthSet, IsSpelt, are_days, are_types, is_counted_to, is_query_number, IsWellFormed}
 use Rattle.dw_wire.proofs.KeptTexts.{field_known, caller_known, number_known, query_known, days_known, types_known, auths_kept, asked_known}
-use Rattle.dw_wire.proofs.KeptBatches.{batch_known, rows_known}
+use Rattle.dw_groups.proofs.KeptBatches.{batch_known, rows_known}
 
 -- what is read is well formed, where it is a request
 record Kept (r : Result Request Why) : Type 0 where

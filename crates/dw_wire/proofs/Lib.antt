@@ -5,8 +5,5 @@ pub mod WritingFields
 pub mod WritingLists
 pub mod Counting
 pub mod ReadingTypes
-pub mod Batches
-pub mod CsvRows
 pub mod KeptTexts
-pub mod KeptBatches
 pub mod KeptRequests

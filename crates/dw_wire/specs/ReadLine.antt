@@ -1,12 +1,10 @@
 -- What request a line is, or why it is none.
-use Rattle.std.specs.Prelude.{ℕ, ◌+◌, ◌&&◌, Bool, true, nat_le, List, [], ◌∷◌, length, map, Option, Some, None, Result, Ok, Err, option_map, option_and_then, is_some, codes, if◌then◌else◌}
+use Rattle.std.specs.Prelude.{ℕ, ◌&&◌, Bool, true, nat_le, List, [], ◌∷◌, length, Option, Some, None, Result, Ok, Err, option_map, option_and_then, is_some, codes, if◌then◌else◌}
 use Rattle.std.specs.List.{list_all}
-use Rattle.std.specs.Str.{is_utf8, bytes_eq}
+use Rattle.std.specs.Str.{bytes_eq}
 use Rattle.std.specs.Ordering.{nat_cmp, is_le}
 use Rattle.std.specs.Cmp.Lexicographic.{slice_cmp}
-use Rattle.csv.specs.Reading.{default_config, strip_bom, records}
 use Rattle.serde_json.specs.Data.{Num, unsigned, negative, float, Data, Items, no_items, item}
-use Rattle.serde_json.specs.Read.{read}
 use Rattle.serde_json.specs.Find.{get, as_bool, as_str, as_number, as_array}
 use Rattle.dw_base.specs.Days.{day_digits}
 use Rattle.dw_key.specs.TypeName.{is_type_name}
@@ -25,11 +23,10 @@ use Rattle.dw_jexl.specs.declared.error.QueryRule.{QueryRule}
 use Rattle.dw_jexl.specs.declared.query.Query.{Query}
 use Rattle.dw_rows.specs.Values.{guarded, text_at, has_only}
 use Rattle.dw_rows.specs.Entries.{field_of}
-use Rattle.dw_rows.specs.JsonRecords.{json_record}
-use Rattle.dw_rows.specs.CsvRecords.{csv_record}
+use Rattle.dw_groups.specs.Batches.{json_of, items_count, batch_of, rows_of, rows_batch}
 use Rattle.dw_base.specs.Callers.{is_caller, is_auth}
 use Rattle.dw_base.specs.declared.limits.TheConstants.{MAX_NAMES}
-use Rattle.dw_wire.specs.declared.limits.TheConstants.{MAX_LINE, MAX_RECORDS, MAX_TYPES, MAX_SIZE, MAX_NUMBER, MAX_PAGE}
+use Rattle.dw_wire.specs.declared.limits.TheConstants.{MAX_LINE, MAX_TYPES, MAX_SIZE, MAX_NUMBER, MAX_PAGE}
 use Rattle.dw_wire.specs.declared.request.Request.{Request}
 use Rattle.dw_wire.specs.declared.request.Request.TheVariants.{Define, Grant, Ingest, Create, Page, Close}
 use Rattle.dw_wire.specs.declared.request.Why.{Why}
@@ -41,10 +38,6 @@ abbrev pub max_line : ℕ
 max_line = MAX_LINE
 
 -- ---- values and members
-
--- the value that the bytes are, as JSON
-abbrev pub json_of : List ℕ → Option Data
-json_of bytes = guarded (is_utf8 bytes) (read bytes)
 
 -- a member that is a truth value
 abbrev pub bool_at : List ℕ → Data → Option Bool
@@ -81,10 +74,6 @@ whole_at name d = option_and_then whole_of (option_and_then as_number (get name 
 abbrev pub counted_to : ℕ → Option ℕ → Option ℕ
 counted_to most None = None
 counted_to most (Some n) = guarded (nat_le 1 n && nat_le n most) (Some n)
-
-abbrev pub items_count : Items → ℕ
-items_count no_items = 0
-items_count (item d ds) = items_count ds + 1
 
 -- ---- what must be there
 
@@ -133,26 +122,6 @@ only_of ds = guarded (nat_le 1 (items_count ds) && nat_le (items_count ds) MAX_T
 abbrev pub asked_types : Option Items → Option Types
 asked_types None = Some All
 asked_types (Some ds) = only_of ds
-
--- ---- the records of an ingest
-
--- the records of values, each read or the first rule that it breaks
-abbrev pub records_of : Items → List (Result Record BadRecord)
-records_of no_items = []
-records_of (item d ds) = json_record d ∷ records_of ds
-
--- the records of a list of at most 10,000 values
-abbrev pub batch_of : Items → Option (List (Result Record BadRecord))
-batch_of ds = guarded (nat_le (items_count ds) MAX_RECORDS) (Some (records_of ds))
-
--- the rows of a text of CSV, without the byte order mark at its start
-abbrev pub rows_of : List ℕ → List (List (List ℕ))
-rows_of text = records default_config (strip_bom text)
-
--- the records of the rows behind a header, at most 10,000; where there is no header there is none
-abbrev pub rows_batch : List (List (List ℕ)) → Option (List (Result Record BadRecord))
-rows_batch [] = Some []
-rows_batch (header ∷ rows) = guarded (nat_le (length rows) MAX_RECORDS) (Some (map (csv_record header) rows))
 
 -- ---- the definition of a field
 

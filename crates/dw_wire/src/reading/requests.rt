@@ -5,14 +5,12 @@ ghost use Rattle.dw_wire.specs.ReadLine.{define_with, define_of, grant_with, gra
 use crate::OutOfMemory;
 use crate::limits::{MAX_NUMBER, MAX_PAGE};
 use crate::reading::auths::read_auths;
-use crate::reading::batches::read_batch;
 use crate::reading::creates::create;
 use crate::reading::definitions::{read_field, read_rule};
 use crate::reading::members::{bool_member, counted_to, list_member, texts_member, whole_member};
-use crate::reading::tables::read_table;
 use crate::reading::texts::read_caller;
-use crate::records::Records;
 use crate::request::{Request, Why};
+use dw_groups::{Records, read_batch, read_table};
 use dw_rows::{is_object_of, text_member};
 use serde_json::Value;
 use std::alloc::Global;
