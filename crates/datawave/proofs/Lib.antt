@@ -1,7 +1,7 @@
 pub mod Results
 pub mod Requests
 pub mod Sessions
-pub mod Feeds
+pub mod Cutting
 pub mod Pieces
 pub mod Running
-pub mod Gathering
+pub mod Grouped

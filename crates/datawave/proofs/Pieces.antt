@@ -5,7 +5,7 @@ use Rattle.datawave.specs.Lines.{kept, lines, last_line, whole_lines, whole_line
 use Rattle.dw_desk.specs.State.{State, start}
 use Rattle.dw_desk.specs.Session.{Digest, Asked}
 use Rattle.datawave.specs.Exchange.{RequestsPut, RequestsLack}
-use Rattle.datawave.proofs.Feeds.{whole_then, rest_then}
+use Rattle.datawave.proofs.Cutting.{whole_then, rest_then}
 use Rattle.datawave.proofs.Sessions.{lack_more, lack_all}
 
 -- where a walk over a piece stands, which follows the bytes in front: the lines so far were taken, and those of the rest, where the

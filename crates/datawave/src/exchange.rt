@@ -56,15 +56,16 @@ fn answer<U: UidMaker>(
     alloc: Global,
     desk: &mut Desk,
     uids: &U,
-    request: Result<Result<Request, Why>, OutOfMemory>,
+    request: &Result<Result<Request, Why>, OutOfMemory>,
 ) -> Result<Text, OutOfMemory>
-    ensures text { IfOk result (λ text. (asked : Asked) → IfOk request (λ r. r ≡ asked) → Answers U.digest (state_of desk.old) asked (text_of text) (state_of desk.new) 0) }
-    ensures err { OnErr result ((asked : Asked) → IfOk request (λ r. r ≡ asked) → (text : List ℕ) × Answers U.digest (state_of desk.old) asked text (state_of desk.new) 0) }
+    ensures text { IfOk result (λ text. (asked : Asked) → IfOk request.now (λ r. r ≡ asked) → Answers U.digest (state_of desk.old) asked (text_of text) (state_of desk.new) 0) }
+    ensures err { OnErr result ((asked : Asked) → IfOk request.now (λ r. r ≡ asked) → (text : List ℕ) × Answers U.digest (state_of desk.old) asked text (state_of desk.new) 0) }
 {
-    let Ok(request) = request else {
-        return Ok(Text::Memory);
+    let request = match request {
+        Ok(request) => request,
+        Err(_) => return Ok(Text::Memory),
     };
-    match desk.answer(alloc, uids, &request) {
+    match desk.answer(alloc, uids, request) {
         Reply::OutOfMemory => Ok(Text::Memory),
         reply => {
             let bytes = write_reply(alloc, &reply)?;
@@ -102,11 +103,11 @@ pub fn exchange<U: UidMaker, O: Sink>(
     alloc: Global,
     desk: &mut Desk,
     uids: &U,
-    request: Result<Result<Request, Why>, OutOfMemory>,
+    request: &Result<Result<Request, Why>, OutOfMemory>,
     output: &mut O,
 ) -> Result<(), Broken>
-    ensures put { OnOk result ((asked : Asked) → IfOk request (λ r. r ≡ asked) → RequestPut U.digest (state_of desk.old) (O.taken output.old) asked (state_of desk.new) (O.taken output.new)) }
-    ensures lacks { OnErr result ((asked : Asked) → IfOk request (λ r. r ≡ asked) → RequestLacks U.digest (state_of desk.old) (O.taken output.old) asked (O.taken output.new)) }
+    ensures put { OnOk result ((asked : Asked) → IfOk request.now (λ r. r ≡ asked) → RequestPut U.digest (state_of desk.old) (O.taken output.old) asked (state_of desk.new) (O.taken output.new)) }
+    ensures lacks { OnErr result ((asked : Asked) → IfOk request.now (λ r. r ≡ asked) → RequestLacks U.digest (state_of desk.old) (O.taken output.old) asked (O.taken output.new)) }
     ensures counted { O.faults output.old ≤ O.faults output.new }
     ensures failed { result ≡ Err Broken.WriteFault → Rose (O.faults output.old) (O.faults output.new) }
 {

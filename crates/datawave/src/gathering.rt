@@ -31,7 +31,8 @@ fn take_in<U: UidMaker, O: Sink>(
     ensures failed { result ≡ Err Broken.WriteFault → Rose (O.faults output.old) (O.faults output.new) }
 {
     let records = mem::replace(group, Records::new(alloc));
-    exchange(alloc, desk, uids, Ok(Ok(Request::Ingest { records })), output)
+    let request = Ok(Ok(Request::Ingest { records }));
+    exchange(alloc, desk, uids, &request, output)
 }
 
 /// Puts a record to the group, which is taken in once it is whole.

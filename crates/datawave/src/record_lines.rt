@@ -42,6 +42,7 @@ fn record_of(alloc: Global, line: &Line) -> Result<Result<Record, BadRecord>, Ou
 }
 
 impl LineWork for RecordLines {
+    ghost use Rattle.std.proofs.Common.{refl};
     ghost use Rattle.dw_groups.specs.Groups.{last_items};
     ghost use Rattle.datawave.specs.Groups.{full_ingests, ingests, line_records};
     ghost use Rattle.datawave.specs.LineLaws.{groups_grow, groups_end};

@@ -108,6 +108,7 @@ impl RecordTable {
 }
 
 impl Work for RecordTable {
+    ghost use Rattle.std.proofs.Common.{refl};
     ghost use Rattle.datawave.specs.Readings.{record_table};
 
     ghost reading = { record_table };

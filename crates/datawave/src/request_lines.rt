@@ -27,6 +27,7 @@ fn request_of(alloc: Global, line: &Line) -> Result<Result<Request, Why>, OutOfM
 }
 
 impl LineWork for RequestLines {
+    ghost use Rattle.std.proofs.Common.{refl};
     ghost use Rattle.datawave.specs.Readings.{requests};
     ghost use Rattle.datawave.specs.LineLaws.{requests_grow, requests_end};
 
@@ -51,7 +52,7 @@ impl LineWork for RequestLines {
         output: &mut O,
     ) -> Result<(), Broken> {
         let request = request_of(alloc, line);
-        exchange(alloc, desk, uids, request, output)
+        exchange(alloc, desk, uids, &request, output)
     }
 
     fn end<U: UidMaker, O: Sink>(

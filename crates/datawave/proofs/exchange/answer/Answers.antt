@@ -1,4 +1,6 @@
+use Rattle.std.proofs.Common.{◌≡◌, subst, Result, IfOk}
 use Rattle.dw_wire.specs.ReplyText.{reply_text}
+use Rattle.dw_desk.specs.Session.{Asked}
 use Rattle.dw_desk.specs.Desk.{state_of}
 use Rattle.datawave.proofs.Requests.{answers_from}
 use Rattle.datawave.proofs.Results.{if_ok_of_err, on_err_always}
@@ -10,6 +12,6 @@ returns-in_err-bytes-in_default g c = record {
   err = on_err_always c.from_residual.result
       (λ asked e. (
         reply_text c.answer.result,
-        answers_from g.U.UidMaker.digest (state_of c.args.desk.now) (state_of c.answer.new.self) asked c.in-Ok.request c.answer.result e c.answer.ensures,
+        answers_from g.U.UidMaker.digest (state_of c.args.desk.now) (state_of c.answer.new.self) asked c.in-Ok.request c.answer.result (subst (λ r. IfOk r (λ (q : Asked). q ≡ asked)) c.in-Ok.is e) c.answer.ensures,
       ));
 }

@@ -6,8 +6,8 @@ use Rattle.dw_desk.specs.Desk.{state_of}
 use Rattle.datawave.proofs.Running.{progress_piece, ends_read_fault, ends_too_much, ends_piece_broken, whole_piece}
 use Rattle.datawave.proofs.intake.turn.Goals as goal
 
-pub returns-then-talk-gt-limit-clause-ends : goal.returns-then-talk-gt-limit-clause-ends
-returns-then-talk-gt-limit-clause-ends g c before out p =
+pub returns-then-talk-limit-clause-ends : goal.returns-then-talk-limit-clause-ends
+returns-then-talk-limit-clause-ends g c before out p =
     let talk = c.args.talk.now in
     let n : ℕ = c.in-Ok.count in
     let piece : List ℕ = take n c.take_at_most.new.buffer in

@@ -135,22 +135,25 @@ tabled_header digest w out after rows group row x =
           (subst (λ (rs : List (List (List ℕ))). Gathered digest out (rows_records rs) w group after) none x.records);
     }
 
+named_first : (header : Option Row) (h : Row) (rows : List (List (List ℕ))) → header ≡ Some h → option_map fields_of header ≡ first rows → Some (fields_of h) ≡ first rows
+named_first header h rows is named = sym (ap (option_map fields_of) is) ∙ named
+
 -- the row is a record
-pub tabled_record : (digest : Digest) (w next : State) (out between after : Option (List ℕ)) (rows : List (List (List ℕ))) (header row : Row) (group group' : Recs)
-    → (x : Tabled digest out rows w (Some header) group between)
-    → Gathered digest out (rows_records rows ++ csv_record (fields_of header) (fields_of row) ∷ []) next group' after
-    → Tabled digest out (rows ++ fields_of row ∷ []) next (Some header) group' after
-tabled_record digest w next out between after rows header row group group' x g = record {
-  named = first_more (fields_of header) rows (fields_of row) x.named;
-  records = subst (λ (rs : Recs). Gathered digest out rs next group' after) (sym (rows_more (fields_of header) rows (fields_of row) x.named)) g;
+pub tabled_record : (digest : Digest) (w next : State) (out between after : Option (List ℕ)) (rows : List (List (List ℕ))) (header : Option Row) (h row : Row) (group group' : Recs)
+    → header ≡ Some h → (x : Tabled digest out rows w header group between)
+    → Gathered digest out (rows_records rows ++ csv_record (fields_of h) (fields_of row) ∷ []) next group' after
+    → Tabled digest out (rows ++ fields_of row ∷ []) next header group' after
+tabled_record digest w next out between after rows header h row group group' is x g = record {
+  named = ap (option_map fields_of) is ∙ first_more (fields_of h) rows (fields_of row) (named_first header h rows is x.named);
+  records = subst (λ (rs : Recs). Gathered digest out rs next group' after) (sym (rows_more (fields_of h) rows (fields_of row) (named_first header h rows is x.named))) g;
 }
 
-pub tabled_lacks : (digest : Digest) (w : State) (out between after : Option (List ℕ)) (rows : List (List (List ℕ))) (header row : Row) (group : Recs)
-    → (x : Tabled digest out rows w (Some header) group between)
-    → RequestsLack digest start out (full_ingests (rows_records rows ++ csv_record (fields_of header) (fields_of row) ∷ [])) after
+pub tabled_lacks : (digest : Digest) (w : State) (out between after : Option (List ℕ)) (rows : List (List (List ℕ))) (header : Option Row) (h row : Row) (group : Recs)
+    → header ≡ Some h → (x : Tabled digest out rows w header group between)
+    → RequestsLack digest start out (full_ingests (rows_records rows ++ csv_record (fields_of h) (fields_of row) ∷ [])) after
     → RequestsLack digest start out (full_ingests (rows_records (rows ++ fields_of row ∷ []))) after
-tabled_lacks digest w out between after rows header row group x lack =
-    subst (λ (rs : Recs). RequestsLack digest start out (full_ingests rs) after) (sym (rows_more (fields_of header) rows (fields_of row) x.named)) lack
+tabled_lacks digest w out between after rows header h row group is x lack =
+    subst (λ (rs : Recs). RequestsLack digest start out (full_ingests rs) after) (sym (rows_more (fields_of h) rows (fields_of row) (named_first header h rows is x.named))) lack
 
 -- the records of more rows follow those of the first
 records_grow : (rows more : List (List (List ℕ))) → (later : Recs) × (rows_records (rows ++ more) ≡ rows_records rows ++ later)
@@ -158,14 +161,17 @@ records_grow [] more = (rows_records more, refl)
 records_grow (header ∷ rows) more = (map (csv_record header) more, map-append (csv_record header) rows more)
 
 -- what rows ask for was answered in part, and so was what more rows ask for
-pub rows_lack : (digest : Digest) (out after : Option (List ℕ)) (all rows more : List (List (List ℕ))) → all ≡ rows ++ more
-    → RequestsLack digest start out (full_ingests (rows_records rows)) after → RequestsLack digest start out (ingests (rows_records all)) after
-rows_lack digest out after all rows more e lack =
+pub rows_stopped : (digest : Digest) (out after : Option (List ℕ)) (all rows more : List (List (List ℕ))) → all ≡ rows ++ more
+    → RequestsLack digest start out (full_ingests (rows_records rows)) after → RequestsLack digest start out (full_ingests (rows_records all)) after
+rows_stopped digest out after all rows more e lack =
     let g = records_grow rows more in
     let recs : rows_records all ≡ rows_records rows ++ g.0 = ap rows_records e ∙ g.1 in
-    whole_lacks digest out after (rows_records all)
-    (subst (λ (rs : List Asked). RequestsLack digest start out rs after) (sym (ap full_ingests recs ∙ ingests_grow (rows_records rows) g.0))
-    (lack_more digest start out after (full_ingests (rows_records rows)) (map ingest (full_groups_after (last_items (rows_records rows)) g.0)) lack))
+    subst (λ (rs : List Asked). RequestsLack digest start out rs after) (sym (ap full_ingests recs ∙ ingests_grow (rows_records rows) g.0))
+    (lack_more digest start out after (full_ingests (rows_records rows)) (map ingest (full_groups_after (last_items (rows_records rows)) g.0)) lack)
+
+pub rows_lack : (digest : Digest) (out after : Option (List ℕ)) (all rows more : List (List (List ℕ))) → all ≡ rows ++ more
+    → RequestsLack digest start out (full_ingests (rows_records rows)) after → RequestsLack digest start out (ingests (rows_records all)) after
+rows_lack digest out after all rows more e lack = whole_lacks digest out after (rows_records all) (rows_stopped digest out after all rows more e lack)
 
 -- no row more was taken
 pub tabled_stopped : (digest : Digest) (w : State) (out after : Option (List ℕ)) (rows : List (List (List ℕ))) (header : Option Row) (group : Recs)
