@@ -68,7 +68,11 @@ pub fn command_of(words: &[Text]) -> Option<Command>
 {
     let (word, words) = words.split_first()?;
     if word.as_str() == "exec" {
-        return if words.is_empty() { Some(Command::Exec) } else { None };
+        return if words.is_empty() {
+            Some(Command::Exec)
+        } else {
+            None
+        };
     }
     if word.as_str() != "ingest" {
         return None;

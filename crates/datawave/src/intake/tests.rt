@@ -2,6 +2,8 @@
 use crate::by_lines::ByLines;
 use crate::exchange::Broken;
 use crate::intake::{Talk, end_of, exchange_all};
+use crate::record_lines::RecordLines;
+use crate::record_table::RecordTable;
 use crate::request_lines::RequestLines;
 use crate::status::Status;
 use crate::work::Work;
@@ -12,12 +14,11 @@ use dw_outside::{MemSink, MemSource};
 use std::alloc::Global;
 use std::test::Fail;
 
-/// How a run ends that has taken all but so many bytes of what it may take, where these are left.
-fn ends_after(alloc: Global, left: &str) -> Result<(Status, Bytes), OutOfMemory> {
+/// How a run ends that has taken all but four bytes of what it may take, where these are left.
+fn ends_after<W: Work>(alloc: Global, work: W, left: &str) -> Result<(Status, Bytes), OutOfMemory> {
+    let total = work.most().saturating_sub(4);
     let mut source = MemSource::new(Bytes::of(alloc, left.as_bytes())?, 16, Vec::new(alloc));
     let mut sink = MemSink::new(alloc, 100, Vec::new(alloc))?;
-    let work = ByLines::new(alloc, RequestLines);
-    let total = work.most() - 4;
     let mut talk = Talk {
         desk: Desk::new(alloc),
         work,
@@ -39,12 +40,43 @@ fn ends_after(alloc: Global, left: &str) -> Result<(Status, Bytes), OutOfMemory>
 fn a_byte_too_many_ends_the_run(rt: HostRuntime) -> Result<(), Fail> {
     let shape = "{\"error\":\"malformed\",\"why\":\"shape\"}\n";
     let json = "{\"error\":\"malformed\",\"why\":\"json\"}\n";
-    let (status, written) = ends_after(rt.alloc(), "[]\n[")?;
+    let (status, written) = ends_after(
+        rt.alloc(),
+        ByLines::new(rt.alloc(), RequestLines),
+        "[]\n[",
+    )?;
     assert!(rt; status == Status::Done);
     assert!(rt; written.as_slice().len() == shape.len() + json.len());
-    let (status, written) = ends_after(rt.alloc(), "[]\n[]")?;
+    let (status, written) = ends_after(
+        rt.alloc(),
+        ByLines::new(rt.alloc(), RequestLines),
+        "[]\n[]",
+    )?;
     assert!(rt; status == Status::TooMuch);
     assert!(rt; written.as_slice() == shape.as_bytes());
+    Ok(())
+}
+
+#[test]
+fn a_byte_too_many_ends_the_taking(rt: HostRuntime) -> Result<(), Fail> {
+    let shape =
+        "{\"bad\":[{\"at\":0,\"why\":\"shape\"}],\"new\":0,\"ok\":\"ingest\",\"repeat\":0}\n";
+    let (status, written) = ends_after(
+        rt.alloc(),
+        ByLines::new(rt.alloc(), RecordLines::new(rt.alloc())),
+        "[]\n[",
+    )?;
+    assert!(rt; status == Status::Done && !written.as_slice().is_empty());
+    let (status, written) = ends_after(
+        rt.alloc(),
+        ByLines::new(rt.alloc(), RecordLines::new(rt.alloc())),
+        "[]\n[]",
+    )?;
+    assert!(rt; status == Status::TooMuch && written.as_slice().is_empty());
+    let (status, written) = ends_after(rt.alloc(), RecordTable::new(rt.alloc()), "a\nb\n")?;
+    assert!(rt; status == Status::Done && written.as_slice() == shape.as_bytes());
+    let (status, written) = ends_after(rt.alloc(), RecordTable::new(rt.alloc()), "a\nb\nc")?;
+    assert!(rt; status == Status::TooMuch && written.as_slice().is_empty());
     Ok(())
 }
 

@@ -13,4 +13,4 @@ invariant-loop-row g l = (l.row-iterator.rdr.trim ≡ trim.None) × Ready l.row-
     × (rows : List (List (List ℕ))) × Reached default_config st.StartRecord (strip_bom l.fn.text) rows l.row-iterator.rdr.state y
     × (g.O.Sink.faults l.fn.output ≤ g.O.Sink.faults l.output)
     × ((out : Option (List ℕ)) → RequestsPut g.U.UidMaker.digest start out [] (state_of l.fn.desk) (g.O.Sink.taken l.fn.output)
-        → Tabled g.U.UidMaker.digest out rows (state_of l.desk) l.table.header l.table.group (g.O.Sink.taken l.output))
+    → Tabled g.U.UidMaker.digest out rows (state_of l.desk) l.table.header l.table.group (g.O.Sink.taken l.output))

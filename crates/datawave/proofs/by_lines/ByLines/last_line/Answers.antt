@@ -9,8 +9,7 @@ use Rattle.datawave.proofs.by_lines.ByLines.last_line.Goals as goal
 
 pub returns-then-is_empty-clause-put : goal.returns-then-is_empty-clause-put
 returns-then-is_empty-clause-put g c out front keeps holds puts =
-    let none : whole_lines front ≡ lines front = last_none front c.args.self.now.line keeps (c.is_empty.ensures.0 c.if-is_empty.true) in
-    (
+    let none : whole_lines front ≡ lines front = last_none front c.args.self.now.line keeps (c.is_empty.ensures.0 c.if-is_empty.true) in (
       subst (λ (ls : List (List ℕ)). g.T.LineWork.holds c.args.self.now.work ls) none holds,
       subst (λ (ls : List (List ℕ)). RequestsPut g.U.UidMaker.digest start out (g.T.LineWork.whole ls) (state_of c.args.desk.now) (g.O.Sink.taken c.args.output.now)) none puts,
     )
@@ -20,8 +19,7 @@ returns-clause-put g c =
     on_ok_then c.line.result (λ put out front keeps holds puts.
     let some : c.args.self.now.line ≡ Some [] → ⊥ = λ e. let full : c.is_empty.result ≡ true = c.is_empty.ensures.1 e in cc in
     let last = last_some front c.args.self.now.line keeps some in
-    let r = put out (whole_lines front) (rest_after [] front) keeps holds puts in
-    (
+    let r = put out (whole_lines front) (rest_after [] front) keeps holds puts in (
       subst (λ (ls : List (List ℕ)). g.T.LineWork.holds c.line.new.self ls) last r.0,
       subst (λ (ls : List (List ℕ)). RequestsPut g.U.UidMaker.digest start out (g.T.LineWork.whole ls) (state_of c.line.new.desk) (g.O.Sink.taken c.line.new.output)) last r.1,
     )) c.line.ensures.put
