@@ -7,3 +7,6 @@ pub mod Counting
 pub mod ReadingTypes
 pub mod KeptTexts
 pub mod KeptRequests
+pub mod KeptRoutes
+pub mod CallerBytes
+pub mod ReadingValues
