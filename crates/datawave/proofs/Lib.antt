@@ -5,3 +5,4 @@ pub mod Cutting
 pub mod Pieces
 pub mod Running
 pub mod Grouped
+pub mod ReadingWords

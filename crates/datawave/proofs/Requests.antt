@@ -1,10 +1,10 @@
 -- What a line asks for, and the text that answers it.
-use Rattle.std.proofs.Common.{◌≡◌, ℕ, Bool, true, false, cond, List, length, nat_le, Option, Some, None, Err, refl, ap, subst, inl, inr, ◌⊎◌}
+use Rattle.std.proofs.Common.{◌≡◌, ℕ, Bool, true, false, cond, List, length, nat_le, Option, Some, None, Ok, Err, refl, ap, subst, inl, inr, ◌⊎◌}
 use Rattle.dw_wire.specs.declared.request.Why.TheVariants as why
 use Rattle.dw_wire.specs.declared.reply.Reply.{Reply}
 use Rattle.dw_wire.specs.declared.reply.Reply.TheVariants.{OutOfMemory}
 use Rattle.dw_groups.specs.Batches.{json_of}
-use Rattle.dw_wire.specs.ReadLine.{max_line, needed, request_of, read_line}
+use Rattle.dw_wire.specs.ReadLine.{max_line, needed, read_from, request_of, read_line}
 use Rattle.dw_wire.specs.ReplyText.{reply_text}
 use Rattle.dw_desk.specs.State.{State}
 use Rattle.dw_desk.specs.Step.{Outcome, step}
@@ -17,7 +17,7 @@ pub too_long : (bytes : List ℕ) → None ≡ kept bytes → Err why.Line ≡ r
 unfolding read_line
 too_long bytes e = refused (nat_le (length bytes) max_line) e
   where
-    refused : (b : Bool) → None ≡ cond b (Some bytes) None → Err why.Line ≡ cond b (needed why.Json (json_of bytes) request_of) (Err why.Line)
+    refused : (b : Bool) → None ≡ cond b (Some bytes) None → Err why.Line ≡ read_from (cond b (needed why.Json (json_of bytes) Ok) (Err why.Line)) request_of
     refused true e = cc
     refused false e = refl
 

@@ -7,6 +7,10 @@ use Rattle.datawave.specs.declared.status.Status.TheVariants.{Done, ReadFault, O
 use Rattle.datawave.specs.declared.exchange.Broken.{Broken}
 use Rattle.datawave.specs.declared.exchange.Broken.TheVariants as broken
 use Rattle.datawave.specs.Statuses.{status_of}
+use Rattle.datawave.specs.declared.command.Form.TheVariants.{Json, Csv}
+use Rattle.datawave.specs.declared.command.Command.{Command}
+use Rattle.datawave.specs.declared.command.Command.TheVariants.{Exec, Ingest}
+use Rattle.datawave.specs.Readings.{reading_of}
 use Rattle.dw_desk.specs.State.{State, start}
 use Rattle.dw_desk.specs.Session.{Digest, Asked}
 use Rattle.datawave.specs.Session.{Reading, AllAnswered, SomeAnswered, BrokeOff, Exchanged, Runs}
@@ -134,3 +138,9 @@ ends_at_start digest reading left out begins = record {
     inl (subst (λ (rs : List Asked). SomeAnswered digest start rs [] 0) (sym begins) (some_all digest start start [] [] 0 (answered_none digest start))),
   );
 }
+
+-- the same of each command
+pub command_at_start : (digest : Digest) (c : Command) (left out : Option (List ℕ)) → Runs digest (reading_of c) OutOfMemory left left out out
+command_at_start digest Exec left out = ends_at_start digest (reading_of Exec) left out refl
+command_at_start digest (Ingest Json) left out = ends_at_start digest (reading_of (Ingest Json)) left out refl
+command_at_start digest (Ingest Csv) left out = ends_at_start digest (reading_of (Ingest Csv)) left out refl

@@ -1,6 +1,7 @@
 -- The words of a command.
-use Rattle.std.specs.Prelude.{ℕ, List, [], ◌∷◌, Option, Some, None, option_map, codes, if◌then◌else◌}
+use Rattle.std.specs.Prelude.{ℕ, Bool, false, List, [], ◌∷◌, Option, Some, None, option_map, codes, if◌then◌else◌}
 use Rattle.std.specs.Str.{bytes_eq}
+use Rattle.clap.specs.Simple.{App, new_app, new_rule, with_rule}
 use Rattle.datawave.specs.declared.command.Form.{Form}
 use Rattle.datawave.specs.declared.command.Form.TheVariants.{Json, Csv}
 use Rattle.datawave.specs.declared.command.Command.{Command}
@@ -33,3 +34,12 @@ command (word ∷ words) =
     if bytes_eq word (codes "exec") then exec_of words
     else if bytes_eq word (codes "ingest") then option_map Ingest (form_of words)
     else None
+
+-- the first word is `exec`
+abbrev pub begins_exec : List (List ℕ) → Bool
+begins_exec [] = false
+begins_exec (word ∷ words) = bytes_eq word (codes "exec")
+
+-- the words of `ingest`: one option with its value
+abbrev pub ingest_app : App
+ingest_app = with_rule (new_app (codes "ingest")) (record (new_rule (codes "form")) { long = Some (codes "form") })

@@ -24,7 +24,7 @@ mod status;
 mod work;
 
 use by_lines::ByLines;
-use command::{Command, Form, command_of};
+use command::{Command, Form, are_command, read_command};
 use dw_event::{ShaUid, UidMaker};
 use dw_key::Text;
 use dw_outside::{Sink, Source, StdInput, StdOutput};
@@ -87,9 +87,13 @@ pub fn run<S: Source, O: Sink, U: UidMaker>(
     ensures read_fault { result ≡ Status.ReadFault → Rose (S.faults input.old) (S.faults input.new) }
     ensures write_fault { result ≡ Status.WriteFault → Rose (O.faults output.old) (O.faults output.new) }
 {
-    match command_of(words) {
-        Some(command) => carry_out(alloc, command, input, output, uids),
-        None => Status::BadWords,
+    if !are_command(words) {
+        return Status::BadWords;
+    }
+    match read_command(alloc, words) {
+        Ok(Some(command)) => carry_out(alloc, command, input, output, uids),
+        Ok(None) => Status::BadWords,
+        Err(_) => Status::OutOfMemory,
     }
 }
 

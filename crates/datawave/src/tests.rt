@@ -9,6 +9,7 @@ use std::alloc::Global;
 use std::test::Fail;
 
 mod groups;
+mod laboratory;
 mod scripts;
 mod stops;
 

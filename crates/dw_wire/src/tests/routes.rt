@@ -89,19 +89,19 @@ fn a_body_is_its_request_or_the_first_reason(rt: HostRuntime) -> Result<(), Fail
     let query = r#"{"query":"A == 'x'","from":"20240101","to":"20240101"}"#;
     for case in [
         of_body(Route::Field, "", "[", JSON),
-        message(
+        of_body(
             Route::Field,
             "",
             r#"{"op":"define","field":"a","kind":"TEXT","indexed":true,"reversed":true}"#,
             SHAPE,
         ),
-        message(
+        of_body(
             Route::Field,
             "",
             r#"{"field":"a b","kind":"TEXT","indexed":true,"reversed":true}"#,
             FIELD,
         ),
-        message(
+        of_body(
             Route::Field,
             "",
             r#"{"field":"a","kind":"TEXT","indexed":true,"reversed":true}"#,
@@ -110,7 +110,7 @@ fn a_body_is_its_request_or_the_first_reason(rt: HostRuntime) -> Result<(), Fail
         of_body(Route::Grant, "ann", r#"{"auths":["S"]}"#, SHAPE),
         of_body(Route::Grant, "", r#"{"caller":"a n","auths":[""]}"#, CALLER),
         of_body(Route::Grant, "", r#"{"caller":"ann","auths":[""]}"#, AUTHS),
-        message(
+        of_body(
             Route::Grant,
             "",
             r#"{"caller":"ann","auths":["S"]}"#,
@@ -122,20 +122,20 @@ fn a_body_is_its_request_or_the_first_reason(rt: HostRuntime) -> Result<(), Fail
         of_body(Route::IngestCsv, "", "[", "ingest"),
         of_body(Route::Query, "", "[", JSON),
         of_body(Route::Query, "", query, SHAPE),
-        message(
+        of_body(
             Route::Query,
             "a n",
             r#"{"query":"A == 'x'","from":"x","to":"20240101"}"#,
             CALLER,
         ),
         of_body(Route::Query, "é", query, CALLER),
-        message(
+        of_body(
             Route::Query,
             "ann",
             r#"{"caller":"ann","query":"A == 'x'","from":"x","to":"20240101"}"#,
             SHAPE,
         ),
-        message(
+        of_body(
             Route::Query,
             "ann",
             r#"{"query":"A == 'x'","from":"x","to":"20240101"}"#,
