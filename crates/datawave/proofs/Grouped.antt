@@ -12,7 +12,7 @@ use Rattle.dw_desk.specs.State.{State, start}
 use Rattle.dw_desk.specs.Session.{Digest, Asked}
 use Rattle.datawave.specs.Groups.{ingest, full_ingests, ingests}
 use Rattle.datawave.specs.Exchange.{RequestPut, RequestLacks, RequestsPut, RequestsLack, Gathered, Tabled, first}
-use Rattle.datawave.proofs.Sessions.{put_none, put_next, lack_next, lack_more, lack_all}
+use Rattle.datawave.proofs.Sessions.{put_next, lack_next, lack_more, lack_all}
 
 abbrev pub Recs : Type 0
 Recs = List (Result Record BadRecord)

@@ -3,12 +3,12 @@ use Rattle.std.proofs.Common.{◌≡◌, ◌∙◌, ℕ, List, [], ◌∷◌, Bo
 use Rattle.std.specs.Str.{bytes_eq}
 use Rattle.std.proofs.lemmas.Slice.Eq.{bytes_eq-Decides}
 use Rattle.clap.specs.Walk.{Row, first_of, walked}
-use Rattle.clap.specs.Simple.{App, is_simple, matches_of}
+use Rattle.clap.specs.Simple.{is_simple, matches_of}
 use Rattle.datawave.specs.declared.command.Form.{Form}
 use Rattle.datawave.specs.declared.command.Form.TheVariants.{Json, Csv}
 use Rattle.datawave.specs.declared.command.Command.{Command}
 use Rattle.datawave.specs.declared.command.Command.TheVariants.{Exec, Ingest}
-use Rattle.datawave.specs.Words.{begins_exec, command, exec_of, form_named, form_in, form_of, ingest_app}
+use Rattle.datawave.specs.Words.{begins_exec, command, exec_of, form_named, form_of, ingest_app}
 
 -- the form that is read of the words after the command
 abbrev read_of : List (List ℕ) → Option Form

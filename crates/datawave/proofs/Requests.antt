@@ -1,5 +1,5 @@
 -- What a line asks for, and the text that answers it.
-use Rattle.std.proofs.Common.{◌≡◌, ℕ, Bool, true, false, cond, List, length, nat_le, Option, Some, None, Ok, Err, refl, ap, subst, inl, inr, ◌⊎◌}
+use Rattle.std.proofs.Common.{◌≡◌, ℕ, Bool, true, false, cond, List, length, nat_le, Some, None, Ok, Err, refl, ap, subst, inl, inr, ◌⊎◌}
 use Rattle.dw_wire.specs.declared.request.Why.TheVariants as why
 use Rattle.dw_wire.specs.declared.reply.Reply.{Reply}
 use Rattle.dw_wire.specs.declared.reply.Reply.TheVariants.{OutOfMemory}

@@ -1,5 +1,5 @@
 -- On a run as a whole: how it begins, goes on with each piece, and ends.
-use Rattle.std.proofs.Common.{◌≡◌, ◌≤◌, ◌+◌, ◌++◌, ◌∷◌, [], ℕ, List, Option, length, take, sym, ap, ◌∙◌, subst, inl, inr, length-append, arith, refl}
+use Rattle.std.proofs.Common.{◌≡◌, ◌≤◌, ◌+◌, ◌++◌, [], ℕ, List, Option, length, take, sym, ap, ◌∙◌, subst, inl, inr, length-append, arith, refl}
 use Rattle.std.proofs.Math.Seq.{take-append_seam}
 use Rattle.std.proofs.lemmas.Grind.{common_steps}
 use Rattle.std.specs.Io.KnownBytes.{prepend_known, IsAtEnd}

@@ -8,7 +8,7 @@ use Rattle.dw_groups.specs.Groups.{full_groups, groups}
 use Rattle.dw_wire.specs.ReadLine.{max_line}
 use Rattle.dw_wire.specs.declared.request.Request.TheVariants.{Ingest}
 use Rattle.dw_desk.specs.Session.{Asked}
-use Rattle.datawave.specs.Lines.{lines, whole_lines}
+use Rattle.datawave.specs.Lines.{lines}
 
 -- the record that a line is, or the first rule that it breaks; a line that is too long is of another shape
 abbrev pub line_record : List ℕ → Result Record BadRecord

@@ -1,4 +1,4 @@
-use Rattle.std.proofs.Common.{◌≡◌, subst, Result, IfOk}
+use Rattle.std.proofs.Common.{◌≡◌, subst, IfOk}
 use Rattle.dw_wire.specs.ReplyText.{reply_text}
 use Rattle.dw_desk.specs.Session.{Asked}
 use Rattle.dw_desk.specs.Desk.{state_of}

@@ -1,4 +1,4 @@
-use Rattle.std.proofs.Common.{◌≡◌, [], arith, rules}
+use Rattle.std.proofs.Common.{◌≡◌, [], arith}
 use Rattle.std.proofs.lemmas.Grind.{common_steps}
 use Rattle.dw_desk.specs.Desk.{state_of}
 use Rattle.datawave.proofs.Grouped.{last_empty, last_put, last_lacks}

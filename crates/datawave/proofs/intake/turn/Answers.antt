@@ -1,4 +1,4 @@
-use Rattle.std.proofs.Common.{◌≡◌, ◌∙◌, ap, sym, subst, [], ℕ, List, length, take, arith}
+use Rattle.std.proofs.Common.{◌≡◌, ◌∙◌, ap, sym, subst, ℕ, List, length, take, arith}
 use Rattle.std.specs.Io.KnownBytes.{prepend_known}
 use Rattle.datawave.specs.declared.status.Status.{Status}
 use Rattle.datawave.specs.Session.{Runs}

@@ -1,4 +1,4 @@
-use Rattle.std.proofs.Common.{◌≡◌, ◌++◌, ◌∷◌, [], ◌∙◌, ap, sym, subst, List}
+use Rattle.std.proofs.Common.{◌≡◌, ◌++◌, ◌∷◌, [], ◌∙◌, ap, sym, subst}
 use Rattle.std.proofs.lemmas.List.{map-append}
 use Rattle.dw_desk.specs.Desk.{state_of}
 use Rattle.dw_desk.specs.State.{start}

@@ -1,11 +1,11 @@
-use Rattle.std.proofs.Common.{◌≡◌, ◌++◌, ◌∷◌, [], ap, refl, subst}
+use Rattle.std.proofs.Common.{◌++◌, ◌∷◌, [], refl, subst}
 use Rattle.csv.specs.Records.{fields_of}
 use Rattle.dw_groups.specs.Batches.{rows_records}
 use Rattle.dw_desk.specs.Desk.{state_of}
 use Rattle.dw_desk.specs.State.{start}
 use Rattle.datawave.specs.Groups.{full_ingests}
 use Rattle.datawave.specs.Exchange.{Gathered, RequestsLack}
-use Rattle.datawave.proofs.Grouped.{Recs, tabled_record, tabled_lacks, tabled_stopped, rows_stopped}
+use Rattle.datawave.proofs.Grouped.{tabled_record, tabled_lacks, tabled_stopped, rows_stopped}
 use Rattle.datawave.proofs.Results.{on_err_always, on_ok_then, on_err_then}
 use Rattle.datawave.proofs.record_table.Table.row.Goals as goal
 
