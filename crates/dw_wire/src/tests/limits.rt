@@ -28,7 +28,9 @@ fn grant(alloc: Global, names: &str) -> Result<Option<Why>, Fail> {
 
 /// Why a create for a list of types is none.
 fn create(alloc: Global, types: &str) -> Result<Option<Why>, Fail> {
-    let line = format!(in alloc; "{{\"op\":\"create\",\"caller\":\"ann\",\"query\":\"A == 'x'\",\"from\":\"20240101\",\"to\":\"20240101\",\"types\":[{types}]}}")?;
+    let line = format!(in alloc;
+        "{{\"op\":\"create\",\"caller\":\"ann\",\"query\":\"A == 'x'\",\"from\":\"20240101\",\"to\":\"20240101\",\"types\":[{types}]}}"
+    )?;
     reason(alloc, line.as_str())
 }
 
