@@ -1,6 +1,8 @@
 pub mod Results
 pub mod Requests
 pub mod Sessions
-pub mod Feeds
+pub mod Cutting
 pub mod Pieces
 pub mod Running
+pub mod Grouped
+pub mod ReadingWords

@@ -1,62 +1,97 @@
--- On answering the lines of a piece of the input.
-use Rattle.std.proofs.Common.{◌≡◌, ◌++◌, ◌∷◌, [], ℕ, List, Option, refl, sym, ap, ◌∙◌, subst, append_assoc, append-nil}
-use Rattle.datawave.specs.Lines.{kept, whole_lines_after, rest_after}
-use Rattle.dw_desk.specs.State.{State}
-use Rattle.dw_desk.specs.Session.{Digest}
-use Rattle.datawave.specs.Exchange.{LinePut, LineLacks, LinesPut, LinesLack}
-use Rattle.datawave.proofs.Sessions.{put_none, put_then, put_one, lack_then, lack_more, lack_all, lack_one}
+-- On taking the lines of a piece of the input, and the last one.
+use Rattle.std.proofs.Common.{◌≡◌, ◌++◌, ◌∷◌, [], ℕ, Bool, true, false, cond, nat_le, length, List, Option, Some, None, refl, sym, ap, ◌∙◌, subst, append_assoc, append-nil}
+use Rattle.dw_wire.specs.ReadLine.{max_line}
+use Rattle.datawave.specs.Lines.{kept, lines, last_line, whole_lines, whole_lines_after, rest_after}
+use Rattle.dw_desk.specs.State.{State, start}
+use Rattle.dw_desk.specs.Session.{Digest, Asked}
+use Rattle.datawave.specs.Exchange.{RequestsPut, RequestsLack}
+use Rattle.datawave.proofs.Cutting.{whole_then, rest_then}
+use Rattle.datawave.proofs.Sessions.{lack_more, lack_all}
 
--- where a walk over a piece stands: the lines so far were answered, and those of the rest, where the first begins with
--- what is kept, are still to come
-pub record Walk (digest : Digest) (w0 : State) (out0 : Option (List ℕ)) (front piece : List ℕ) (line : Option (List ℕ)) (rest : List ℕ) (w : State) (out : Option (List ℕ)) : Type 0 where
+-- where a walk over a piece stands, which follows the bytes in front: the lines so far were taken, and those of the rest, where the
+-- first begins with what is kept, are still to come
+pub record Walk (Taken : List (List ℕ) → Type 0) (front piece : List ℕ) (line : Option (List ℕ)) (rest : List ℕ) : Type 0 where
   pub done : List (List ℕ)
   pub here : List ℕ
-  pub lines : whole_lines_after front piece ≡ done ++ whole_lines_after here rest
-  pub ends : rest_after front piece ≡ rest_after here rest
+  pub cut : whole_lines (front ++ piece) ≡ done ++ whole_lines_after here rest
+  pub ends : rest_after [] (front ++ piece) ≡ rest_after here rest
   pub keeps : line ≡ kept here
-  pub puts : LinesPut digest w0 out0 done w out
+  pub takes : Taken done
 
-pub walk_start : (digest : Digest) (w : State) (out : Option (List ℕ)) (front piece : List ℕ) (line : Option (List ℕ)) → line ≡ kept front
-    → Walk digest w out front piece line piece w out
-walk_start digest w out front piece line e = record { done = []; here = front; lines = refl; ends = refl; keeps = e; puts = put_none digest w out }
+pub walk_start : (Taken : List (List ℕ) → Type 0) (front piece : List ℕ) (line : Option (List ℕ)) → line ≡ kept (rest_after [] front) → Taken (whole_lines front)
+    → Walk Taken front piece line piece
+walk_start Taken front piece line e takes =
+    record { done = whole_lines front; here = rest_after [] front; cut = whole_then [] front piece; ends = rest_then [] front piece; keeps = e; takes = takes }
 
 -- one line more
-pub walk_line : (digest : Digest) (w0 w next : State) (out0 out after : Option (List ℕ)) (front piece rest text more : List ℕ) (line : Option (List ℕ))
-    → (x : Walk digest w0 out0 front piece line rest w out)
+pub walk_line : (Taken Taken' : List (List ℕ) → Type 0) (front piece : List ℕ) (line empty : Option (List ℕ)) (rest text more : List ℕ)
+    → (x : Walk Taken front piece line rest)
     → whole_lines_after x.here rest ≡ (x.here ++ text) ∷ whole_lines_after [] more → rest_after x.here rest ≡ rest_after [] more
-    → LinePut digest w out (x.here ++ text) next after → (empty : Option (List ℕ)) → empty ≡ kept []
-    → Walk digest w0 out0 front piece empty more next after
-walk_line digest w0 w next out0 out after front piece rest text more line x cut left put empty e = record {
+    → Taken' (x.done ++ (x.here ++ text) ∷ []) → empty ≡ kept []
+    → Walk Taken' front piece empty more
+walk_line Taken Taken' front piece line empty rest text more x cut left takes e = record {
   done = x.done ++ (x.here ++ text) ∷ [];
   here = [];
-  lines = x.lines ∙ ap (λ ls. x.done ++ ls) cut ∙ sym (append_assoc x.done ((x.here ++ text) ∷ []) (whole_lines_after [] more));
+  cut = x.cut ∙ ap (λ ls. x.done ++ ls) cut ∙ sym (append_assoc x.done ((x.here ++ text) ∷ []) (whole_lines_after [] more));
   ends = x.ends ∙ left;
   keeps = e;
-  puts = put_then digest w0 w next out0 out after x.done ((x.here ++ text) ∷ []) x.puts (put_one digest w next out after (x.here ++ text) put);
+  takes = takes;
 }
 
+-- ---- what lines ask for grows with them
+
+abbrev pub Grows : (List (List ℕ) → List Asked) → Type 0
+Grows whole = (xs ys : List (List ℕ)) → (more : List Asked) × (whole (xs ++ ys) ≡ whole xs ++ more)
+
+grown : (whole : List (List ℕ) → List Asked) (grows : Grows whole) (digest : Digest) (out after : Option (List ℕ)) (all xs ys : List (List ℕ)) → all ≡ xs ++ ys
+    → RequestsLack digest start out (whole xs) after → RequestsLack digest start out (whole all) after
+grown whole grows digest out after all xs ys e lack =
+    let g = grows xs ys in
+    subst (λ (rs : List Asked). RequestsLack digest start out rs after) (sym (ap whole e ∙ g.1)) (lack_more digest start out after (whole xs) g.0 lack)
+
 -- the answer to a line broke off
-pub walk_broken : (digest : Digest) (w0 w : State) (out0 out after : Option (List ℕ)) (front piece rest text more : List ℕ) (line : Option (List ℕ))
-    → (x : Walk digest w0 out0 front piece line rest w out)
+pub walk_broken : (whole : List (List ℕ) → List Asked) (grows : Grows whole) (digest : Digest) (out after : Option (List ℕ))
+    → (Taken : List (List ℕ) → Type 0) (front piece : List ℕ) (line : Option (List ℕ)) (rest text more : List ℕ) (x : Walk Taken front piece line rest)
     → whole_lines_after x.here rest ≡ (x.here ++ text) ∷ whole_lines_after [] more
-    → LineLacks digest w out (x.here ++ text) after → LinesLack digest w0 out0 (whole_lines_after front piece) after
-walk_broken digest w0 w out0 out after front piece rest text more line x cut lacks =
-    let here : List (List ℕ) = (x.here ++ text) ∷ [] in
-    subst (λ (ls : List (List ℕ)). LinesLack digest w0 out0 ls after)
-    (append_assoc x.done here (whole_lines_after [] more) ∙ sym (x.lines ∙ ap (λ ls. x.done ++ ls) cut))
-    (lack_more digest w0 out0 after (x.done ++ here) (whole_lines_after [] more)
-    (lack_then digest w0 w out0 out after x.done here x.puts (lack_one digest w out after (x.here ++ text) lacks)))
+    → RequestsLack digest start out (whole (x.done ++ (x.here ++ text) ∷ [])) after → RequestsLack digest start out (whole (whole_lines (front ++ piece))) after
+walk_broken whole grows digest out after Taken front piece line rest text more x cut lacks =
+    grown whole grows digest out after (whole_lines (front ++ piece)) (x.done ++ (x.here ++ text) ∷ []) (whole_lines_after [] more)
+    (x.cut ∙ ap (λ ls. x.done ++ ls) cut ∙ sym (append_assoc x.done ((x.here ++ text) ∷ []) (whole_lines_after [] more))) lacks
 
 -- memory was wanting for what is kept
-pub walk_stopped : (digest : Digest) (w0 w : State) (out0 out : Option (List ℕ)) (front piece rest : List ℕ) (line : Option (List ℕ))
-    → Walk digest w0 out0 front piece line rest w out → LinesLack digest w0 out0 (whole_lines_after front piece) out
-walk_stopped digest w0 w out0 out front piece rest line x =
-    subst (λ (ls : List (List ℕ)). LinesLack digest w0 out0 ls out) (sym x.lines)
-    (lack_more digest w0 out0 out x.done (whole_lines_after x.here rest) (lack_all digest w0 w out0 out x.done x.puts))
+pub walk_stopped : (whole : List (List ℕ) → List Asked) (grows : Grows whole) (digest : Digest) (out after : Option (List ℕ)) (w : State)
+    → (Taken : List (List ℕ) → Type 0) (front piece : List ℕ) (line : Option (List ℕ)) (rest : List ℕ) (x : Walk Taken front piece line rest)
+    → RequestsPut digest start out (whole x.done) w after → RequestsLack digest start out (whole (whole_lines (front ++ piece))) after
+walk_stopped whole grows digest out after w Taken front piece line rest x puts =
+    grown whole grows digest out after (whole_lines (front ++ piece)) x.done (whole_lines_after x.here rest) x.cut (lack_all digest start w out after (whole x.done) puts)
 
 -- no line feed is left
-pub walk_end : (digest : Digest) (w0 w : State) (out0 out : Option (List ℕ)) (front piece rest : List ℕ) (line : Option (List ℕ))
-    → (x : Walk digest w0 out0 front piece line rest w out) → whole_lines_after x.here rest ≡ []
-    → LinesPut digest w0 out0 (whole_lines_after front piece) w out
-walk_end digest w0 w out0 out front piece rest line x none =
-    subst (λ (ls : List (List ℕ)). LinesPut digest w0 out0 ls w out) (sym (x.lines ∙ ap (λ ls. x.done ++ ls) none ∙ append-nil x.done)) x.puts
+pub walk_end : (Taken : List (List ℕ) → Type 0) (front piece : List ℕ) (line : Option (List ℕ)) (rest : List ℕ) (x : Walk Taken front piece line rest)
+    → whole_lines_after x.here rest ≡ [] → Taken (whole_lines (front ++ piece))
+walk_end Taken front piece line rest x none = subst Taken (sym (x.cut ∙ ap (λ ls. x.done ++ ls) none ∙ append-nil x.done)) x.takes
+
+-- ---- the last line
+
+kept_some : (b : Bool) (bytes : List ℕ) → Some [] ≡ cond b (Some bytes) None → bytes ≡ []
+kept_some true bytes e = cc
+kept_some false bytes e = cc
+
+-- the last line feed ends the input
+pub last_none : (front : List ℕ) (line : Option (List ℕ)) → line ≡ kept (rest_after [] front) → line ≡ Some [] → whole_lines front ≡ lines front
+last_none front line keeps empty =
+    let none : rest_after [] front ≡ [] = kept_some (nat_le (length (rest_after [] front)) max_line) (rest_after [] front) (sym empty ∙ keeps) in
+    sym (ap (λ r. whole_lines front ++ last_line r) none ∙ append-nil (whole_lines front))
+
+last_is : (rest : List ℕ) → (kept rest ≡ Some [] → ⊥) → last_line rest ≡ rest ∷ []
+last_is [] h = absurd (h refl)
+last_is (b ∷ bs) h = refl
+
+pub last_some : (front : List ℕ) (line : Option (List ℕ)) → line ≡ kept (rest_after [] front) → (line ≡ Some [] → ⊥) → whole_lines front ++ rest_after [] front ∷ [] ≡ lines front
+last_some front line keeps some = ap (λ ls. whole_lines front ++ ls) (sym (last_is (rest_after [] front) (λ e. some (keeps ∙ e))))
+
+-- what is whole was answered in part, and so was all
+pub ended : (whole all : List (List ℕ) → List Asked) (ends : (ls : List (List ℕ)) → (more : List Asked) × (all ls ≡ whole ls ++ more)) (digest : Digest) (out after : Option (List ℕ)) (ls : List (List ℕ))
+    → RequestsLack digest start out (whole ls) after → RequestsLack digest start out (all ls) after
+ended whole all ends digest out after ls lack =
+    let e = ends ls in
+    subst (λ (rs : List Asked). RequestsLack digest start out rs after) (sym e.1) (lack_more digest start out after (whole ls) e.0 lack)

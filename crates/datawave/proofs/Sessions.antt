@@ -2,13 +2,11 @@
 use Rattle.std.proofs.Common.{◌≡◌, ◌+◌, ◌++◌, ◌∷◌, [], ℕ, List, Option, Some, None, refl, sym, ap, ◌∙◌, subst, inl, inr, append_assoc, append-nil, zero-add, add_assoc, take, drop, take-append-drop}
 use Rattle.std.specs.List.{concat}
 use Rattle.std.proofs.lemmas.List.Folds.{concat-append}
-use Rattle.std.proofs.lemmas.List.{map-append}
 use Rattle.std.specs.Io.KnownBytes.{append_known, prepend_known}
-use Rattle.dw_wire.specs.ReadLine.{read_line}
 use Rattle.dw_desk.specs.State.{State}
-use Rattle.dw_desk.specs.Session.{Digest, Asked, Session}
-use Rattle.datawave.specs.Session.{requests, AllAnswered, LastLacks, FrontAnswered, SomeAnswered}
-use Rattle.datawave.specs.Exchange.{AnswersLine, LinePut, LineLacks, LinesPut, LinesLack, PartPut}
+use Rattle.dw_desk.specs.Session.{Digest, Asked, Answers, Session}
+use Rattle.datawave.specs.Session.{AllAnswered, LastLacks, FrontAnswered, SomeAnswered}
+use Rattle.datawave.specs.Exchange.{RequestPut, RequestLacks, RequestsPut, RequestsLack, PartPut}
 
 session_then : (digest : Digest) (w : State) (xs : List Asked) (ts : List (List ℕ)) (ys : List Asked) (us : List (List ℕ)) (mid last : State) (m n : ℕ)
     → Session digest w xs ts mid m → Session digest mid ys us last n → Session digest w (xs ++ ys) (ts ++ us) last (m + n)
@@ -70,12 +68,12 @@ some_all digest w last xs a m x = record { front = xs; rest = []; split = sym (a
 pub answered_none : (digest : Digest) (w : State) → AllAnswered digest w [] [] w 0
 answered_none digest w = record { texts = []; session = (refl, refl); joined = refl }
 
-answered_one : (digest : Digest) (w next : State) (line text : List ℕ) → AnswersLine digest w line text next → AllAnswered digest w (requests (line ∷ [])) text next 0
-answered_one digest w next line text h = record { texts = text ∷ []; session = (next, 0, 0, h, (refl, refl), refl); joined = sym (append-nil text) }
+answered_one : (digest : Digest) (w next : State) (request : Asked) (text : List ℕ) → Answers digest w request text next 0 → AllAnswered digest w (request ∷ []) text next 0
+answered_one digest w next request text h = record { texts = text ∷ []; session = (next, 0, 0, h, (refl, refl), refl); joined = sym (append-nil text) }
 
-lacks_one : (digest : Digest) (w next : State) (line part missing : List ℕ) → AnswersLine digest w line (part ++ missing) next → SomeAnswered digest w (requests (line ∷ [])) part 0
-lacks_one digest w next line part missing h = record {
-  front = requests (line ∷ []);
+lacks_one : (digest : Digest) (w next : State) (request : Asked) (part missing : List ℕ) → Answers digest w request (part ++ missing) next 0 → SomeAnswered digest w (request ∷ []) part 0
+lacks_one digest w next request part missing h = record {
+  front = request ∷ [];
   rest = [];
   split = refl;
   answered = inr (record { texts = []; part = part; missing = missing; last = next; session = (next, 0, 0, h, (refl, refl), refl); joined = refl });
@@ -99,46 +97,46 @@ prepend_nothing (Some xs) = refl
 
 -- ---- the same with what the output holds
 
--- what two stretches of lines ask for
-both_ask : (xs ys : List (List ℕ)) → requests xs ++ requests ys ≡ requests (xs ++ ys)
-both_ask xs ys = sym (map-append read_line xs ys)
-
-pub put_none : (digest : Digest) (w : State) (out : Option (List ℕ)) → LinesPut digest w out [] w out
+pub put_none : (digest : Digest) (w : State) (out : Option (List ℕ)) → RequestsPut digest w out [] w out
 put_none digest w out = record { written = []; answered = answered_none digest w; output = known_nothing out }
 
-pub put_then : (digest : Digest) (w mid last : State) (out between after : Option (List ℕ)) (xs ys : List (List ℕ))
-    → LinesPut digest w out xs mid between → LinesPut digest mid between ys last after → LinesPut digest w out (xs ++ ys) last after
+pub put_then : (digest : Digest) (w mid last : State) (out between after : Option (List ℕ)) (xs ys : List Asked)
+    → RequestsPut digest w out xs mid between → RequestsPut digest mid between ys last after → RequestsPut digest w out (xs ++ ys) last after
 put_then digest w mid last out between after xs ys x y = record {
   written = x.written ++ y.written;
-  answered = subst (λ (rs : List Asked). AllAnswered digest w rs (x.written ++ y.written) last 0) (both_ask xs ys)
-      (answered_then digest w mid last (requests xs) (requests ys) x.written y.written 0 0 x.answered y.answered);
+  answered = answered_then digest w mid last xs ys x.written y.written 0 0 x.answered y.answered;
   output = y.output ∙ ap (λ o. append_known o y.written) x.output ∙ known_then out x.written y.written;
 }
 
-pub lack_then : (digest : Digest) (w mid : State) (out between after : Option (List ℕ)) (xs ys : List (List ℕ))
-    → LinesPut digest w out xs mid between → LinesLack digest mid between ys after → LinesLack digest w out (xs ++ ys) after
+pub lack_then : (digest : Digest) (w mid : State) (out between after : Option (List ℕ)) (xs ys : List Asked)
+    → RequestsPut digest w out xs mid between → RequestsLack digest mid between ys after → RequestsLack digest w out (xs ++ ys) after
 lack_then digest w mid out between after xs ys x y = record {
   written = x.written ++ y.written;
-  answered = subst (λ (rs : List Asked). SomeAnswered digest w rs (x.written ++ y.written) 0) (both_ask xs ys)
-      (some_then digest w mid (requests xs) (requests ys) x.written y.written 0 0 x.answered y.answered);
+  answered = some_then digest w mid xs ys x.written y.written 0 0 x.answered y.answered;
   output = y.output ∙ ap (λ o. append_known o y.written) x.output ∙ known_then out x.written y.written;
 }
 
-pub lack_more : (digest : Digest) (w : State) (out after : Option (List ℕ)) (xs ys : List (List ℕ)) → LinesLack digest w out xs after → LinesLack digest w out (xs ++ ys) after
-lack_more digest w out after xs ys x = record {
-  written = x.written;
-  answered = subst (λ (rs : List Asked). SomeAnswered digest w rs x.written 0) (both_ask xs ys) (some_more digest w (requests xs) (requests ys) x.written 0 x.answered);
-  output = x.output;
-}
+pub lack_more : (digest : Digest) (w : State) (out after : Option (List ℕ)) (xs ys : List Asked) → RequestsLack digest w out xs after → RequestsLack digest w out (xs ++ ys) after
+lack_more digest w out after xs ys x = record { written = x.written; answered = some_more digest w xs ys x.written 0 x.answered; output = x.output }
 
-pub lack_all : (digest : Digest) (w last : State) (out after : Option (List ℕ)) (xs : List (List ℕ)) → LinesPut digest w out xs last after → LinesLack digest w out xs after
-lack_all digest w last out after xs x = record { written = x.written; answered = some_all digest w last (requests xs) x.written 0 x.answered; output = x.output }
+pub lack_all : (digest : Digest) (w last : State) (out after : Option (List ℕ)) (xs : List Asked) → RequestsPut digest w out xs last after → RequestsLack digest w out xs after
+lack_all digest w last out after xs x = record { written = x.written; answered = some_all digest w last xs x.written 0 x.answered; output = x.output }
 
-pub put_one : (digest : Digest) (w next : State) (out after : Option (List ℕ)) (line : List ℕ) → LinePut digest w out line next after → LinesPut digest w out (line ∷ []) next after
-put_one digest w next out after line x = record { written = x.text; answered = answered_one digest w next line x.text x.answers; output = x.output }
+put_one : (digest : Digest) (w next : State) (out after : Option (List ℕ)) (request : Asked) → RequestPut digest w out request next after → RequestsPut digest w out (request ∷ []) next after
+put_one digest w next out after request x = record { written = x.text; answered = answered_one digest w next request x.text x.answers; output = x.output }
 
-pub lack_one : (digest : Digest) (w : State) (out after : Option (List ℕ)) (line : List ℕ) → LineLacks digest w out line after → LinesLack digest w out (line ∷ []) after
-lack_one digest w out after line x = record { written = x.part; answered = lacks_one digest w x.next line x.part x.missing x.answers; output = x.output }
+lack_one : (digest : Digest) (w : State) (out after : Option (List ℕ)) (request : Asked) → RequestLacks digest w out request after → RequestsLack digest w out (request ∷ []) after
+lack_one digest w out after request x = record { written = x.part; answered = lacks_one digest w x.next request x.part x.missing x.answers; output = x.output }
+
+-- one request more
+pub put_next : (digest : Digest) (w mid last : State) (out between after : Option (List ℕ)) (xs : List Asked) (request : Asked)
+    → RequestsPut digest w out xs mid between → RequestPut digest mid between request last after → RequestsPut digest w out (xs ++ request ∷ []) last after
+put_next digest w mid last out between after xs request x y = put_then digest w mid last out between after xs (request ∷ []) x (put_one digest mid last between after request y)
+
+-- the answer to one more broke off
+pub lack_next : (digest : Digest) (w mid : State) (out between after : Option (List ℕ)) (xs : List Asked) (request : Asked)
+    → RequestsPut digest w out xs mid between → RequestLacks digest mid between request after → RequestsLack digest w out (xs ++ request ∷ []) after
+lack_next digest w mid out between after xs request x y = lack_then digest w mid out between after xs (request ∷ []) x (lack_one digest mid between after request y)
 
 -- ---- a text that is put in parts
 

@@ -1,40 +1,40 @@
 -- What parts of a run leave of the state and of the output.
-use Rattle.std.specs.Prelude.{◌≡◌, ℕ, Option, List, [], ◌++◌, length}
+use Rattle.std.specs.Prelude.{◌≡◌, ℕ, Option, Some, None, List, [], ◌∷◌, ◌++◌, length, option_map, Result}
 use Rattle.std.specs.Io.KnownBytes.{append_known, prepend_known}
-use Rattle.datawave.specs.Lines.{kept, whole_lines, rest_after}
-use Rattle.dw_wire.specs.ReadLine.{read_line}
+use Rattle.csv.specs.Records.{Row, fields_of}
+use Rattle.dw_event.specs.declared.records.Record.{Record}
+use Rattle.dw_event.specs.declared.reports.BadRecord.{BadRecord}
+use Rattle.dw_groups.specs.Batches.{rows_records}
+use Rattle.dw_groups.specs.Groups.{last_items}
 use Rattle.dw_desk.specs.State.{State, start}
-use Rattle.dw_desk.specs.Session.{Digest, Answers}
-use Rattle.datawave.specs.Session.{requests, AllAnswered, SomeAnswered}
+use Rattle.dw_desk.specs.Session.{Digest, Asked, Answers}
+use Rattle.datawave.specs.Groups.{full_ingests}
+use Rattle.datawave.specs.Session.{Reading, AllAnswered, SomeAnswered}
 
--- the text answers the line, and leaves this state; no store fails
-abbrev pub AnswersLine : Digest → State → List ℕ → List ℕ → State → Type 0
-AnswersLine digest w line text next = Answers digest w (read_line line) text next 0
-
--- a line was answered, and its text was put
-pub record LinePut (digest : Digest) (w : State) (out : Option (List ℕ)) (line : List ℕ) (next : State) (after : Option (List ℕ)) : Type 0 where
+-- a request was answered, and its text was put; no store fails
+pub record RequestPut (digest : Digest) (w : State) (out : Option (List ℕ)) (request : Asked) (next : State) (after : Option (List ℕ)) : Type 0 where
   pub text : List ℕ
-  pub answers : AnswersLine digest w line text next
+  pub answers : Answers digest w request text next 0
   pub output : after ≡ append_known out text
 
--- a line was answered, and a part of its text was put
-pub record LineLacks (digest : Digest) (w : State) (out : Option (List ℕ)) (line : List ℕ) (after : Option (List ℕ)) : Type 0 where
+-- a request was answered, and a part of its text was put
+pub record RequestLacks (digest : Digest) (w : State) (out : Option (List ℕ)) (request : Asked) (after : Option (List ℕ)) : Type 0 where
   pub part : List ℕ
   pub missing : List ℕ
   pub next : State
-  pub answers : AnswersLine digest w line (part ++ missing) next
+  pub answers : Answers digest w request (part ++ missing) next 0
   pub output : after ≡ append_known out part
 
--- lines were answered, and their texts were put
-pub record LinesPut (digest : Digest) (w : State) (out : Option (List ℕ)) (ls : List (List ℕ)) (next : State) (after : Option (List ℕ)) : Type 0 where
+-- requests were answered, and their texts were put
+pub record RequestsPut (digest : Digest) (w : State) (out : Option (List ℕ)) (rs : List Asked) (next : State) (after : Option (List ℕ)) : Type 0 where
   pub written : List ℕ
-  pub answered : AllAnswered digest w (requests ls) written next 0
+  pub answered : AllAnswered digest w rs written next 0
   pub output : after ≡ append_known out written
 
--- some of the lines were answered, and what was put lacks at most an end of the last text
-pub record LinesLack (digest : Digest) (w : State) (out : Option (List ℕ)) (ls : List (List ℕ)) (after : Option (List ℕ)) : Type 0 where
+-- some of the requests were answered, and what was put lacks at most an end of the last text
+pub record RequestsLack (digest : Digest) (w : State) (out : Option (List ℕ)) (rs : List Asked) (after : Option (List ℕ)) : Type 0 where
   pub written : List ℕ
-  pub answered : SomeAnswered digest w (requests ls) written 0
+  pub answered : SomeAnswered digest w rs written 0
   pub output : after ≡ append_known out written
 
 -- a part of a text was put
@@ -44,10 +44,25 @@ pub record PartPut (out : Option (List ℕ)) (text : List ℕ) (after : Option (
   pub whole : text ≡ part ++ missing
   pub output : after ≡ append_known out part
 
--- between two pieces of the input: what was taken so far, of which the whole lines were answered
-pub record Progress (digest : Digest) (left_before left out_before out : Option (List ℕ)) (w : State) (line : Option (List ℕ)) (total : ℕ) : Type 0 where
+-- between two pieces of the input: what was taken so far, of which what is whole was answered, and the rest is held
+pub record Progress (digest : Digest) (reading : Reading) (Held : List ℕ → Type 0) (left_before left out_before out : Option (List ℕ)) (w : State) (total : ℕ) : Type 0 where
   pub taken : List ℕ
   pub input : left_before ≡ prepend_known taken left
   pub count : length taken ≡ total
-  pub lines : LinesPut digest start out_before (whole_lines taken) w out
-  pub partial : line ≡ kept (rest_after [] taken)
+  pub puts : RequestsPut digest start out_before (reading.whole taken) w out
+  pub held : Held taken
+
+-- between two records: the whole groups were taken in from the first state on, and the rest is held
+pub record Gathered (digest : Digest) (out_before : Option (List ℕ)) (recs : List (Result Record BadRecord)) (w : State) (group : List (Result Record BadRecord)) (out : Option (List ℕ)) : Type 0 where
+  pub puts : RequestsPut digest start out_before (full_ingests recs) w out
+  pub held : group ≡ last_items recs
+
+-- the first of a list
+abbrev pub first : {A : Type 0} → List A → Option A
+first [] = None
+first (x ∷ xs) = Some x
+
+-- between two rows of a table: the first is its header, and the others were gathered
+pub record Tabled (digest : Digest) (out_before : Option (List ℕ)) (rows : List (List (List ℕ))) (w : State) (header : Option Row) (group : List (Result Record BadRecord)) (out : Option (List ℕ)) : Type 0 where
+  pub named : option_map fields_of header ≡ first rows
+  pub records : Gathered digest out_before (rows_records rows) w group out

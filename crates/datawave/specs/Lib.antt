@@ -1,6 +1,9 @@
 pub mod Lines
 pub mod Words
+pub mod Groups
 pub mod Session
+pub mod Readings
 pub mod Exchange
 pub mod Texts
+pub mod LineLaws
 pub mod Statuses

@@ -1,17 +1,11 @@
--- A run: the requests that the lines of the input are, one after another, and what was written.
-use Rattle.std.specs.Prelude.{◌≡◌, ◌≤◌, ◌⊎◌, ◌+◌, ◌^◌, ℕ, Option, List, [], ◌∷◌, ◌++◌, length, map, take}
+-- A run: the requests that the input is read as, one after another, and what was written.
+use Rattle.std.specs.Prelude.{◌≡◌, ◌≤◌, ◌⊎◌, ◌+◌, ℕ, Option, List, [], ◌∷◌, ◌++◌, length, take}
 use Rattle.std.specs.List.{concat}
 use Rattle.std.specs.Io.KnownBytes.{append_known, prepend_known, IsAtEnd}
 use Rattle.datawave.specs.declared.status.Status.{Status}
 use Rattle.datawave.specs.declared.status.Status.TheVariants.{Done, BadWords, ReadFault, WriteFault, OutOfMemory, TooMuch}
-use Rattle.datawave.specs.Lines.{lines, whole_lines}
 use Rattle.dw_desk.specs.State.{State, start}
 use Rattle.dw_desk.specs.Session.{Digest, Asked, Session}
-use Rattle.dw_wire.specs.ReadLine.{read_line}
-
--- what lines ask for
-abbrev pub requests : List (List ℕ) → List Asked
-requests ls = map read_line ls
 
 -- the requests were answered, in order, and the bytes are the joined texts of the answers
 pub record AllAnswered (digest : Digest) (w : State) (rs : List Asked) (written : List ℕ) (last : State) (faults : ℕ) : Type 0 where
@@ -39,36 +33,43 @@ pub record SomeAnswered (digest : Digest) (w : State) (rs : List Asked) (written
   pub split : rs ≡ front ++ rest
   pub answered : FrontAnswered digest w front written faults
 
--- the most bytes of input that a run takes
-abbrev pub max_input : ℕ
-max_input = 2 ^ 40
+-- what the bytes of an input ask for
+pub record Reading : Type 0 where
+  -- by what is whole in them, whatever follows
+  pub whole : List ℕ → List Asked
+  -- all that they ask for, where the input ends
+  pub all : List ℕ → List Asked
+  -- the most bytes that are taken
+  pub most : ℕ
 
--- what these lines ask for, and nothing else, was answered from the first request on; nothing is stored, so no store fails
-abbrev pub Answered : Digest → List (List ℕ) → List ℕ → Type 0
-Answered digest ls written = (last : State) × AllAnswered digest start (requests ls) written last 0
+-- these requests, and nothing else, were answered from the first state on; nothing is stored, so no store fails
+abbrev pub Answered : Digest → List Asked → List ℕ → Type 0
+Answered digest rs written = (last : State) × AllAnswered digest start rs written last 0
 
--- a front of it was answered so
-abbrev pub PartlyAnswered : Digest → List (List ℕ) → List ℕ → Type 0
-PartlyAnswered digest ls written = SomeAnswered digest start (requests ls) written 0
+-- a front of them was answered so
+abbrev pub PartlyAnswered : Digest → List Asked → List ℕ → Type 0
+PartlyAnswered digest rs written = SomeAnswered digest start rs written 0
 
--- a run that broke off answered whole lines alone, unless the input had come to its end, where a last piece is a line too
-abbrev pub BrokeOff : Digest → Option (List ℕ) → List ℕ → List ℕ → Type 0
-BrokeOff digest left taken written = PartlyAnswered digest (whole_lines taken) written ⊎ (IsAtEnd left × PartlyAnswered digest (lines taken) written)
+-- a run that broke off answered what is whole alone, unless the input had come to its end
+abbrev pub BrokeOff : Digest → Reading → Option (List ℕ) → List ℕ → List ℕ → Type 0
+BrokeOff digest reading left taken written =
+    PartlyAnswered digest (reading.whole taken) written ⊎ (IsAtEnd left × PartlyAnswered digest (reading.all taken) written)
 
 -- at each end: what is left of the input, what was taken of it, and what was written to the output
-abbrev pub Exchanged : Digest → Status → Option (List ℕ) → List ℕ → List ℕ → Type 0
-Exchanged digest Done left taken written = IsAtEnd left × (length taken ≤ max_input) × Answered digest (lines taken) written
-Exchanged digest BadWords left taken written = (taken ≡ []) × (written ≡ [])
-Exchanged digest ReadFault left taken written = (length taken ≤ max_input) × Answered digest (whole_lines taken) written
-Exchanged digest WriteFault left taken written = (length taken ≤ max_input) × BrokeOff digest left taken written
-Exchanged digest OutOfMemory left taken written = (length taken ≤ max_input) × BrokeOff digest left taken written
-Exchanged digest TooMuch left taken written = (length taken ≡ max_input + 1) × Answered digest (whole_lines (take max_input taken)) written
+abbrev pub Exchanged : Digest → Reading → Status → Option (List ℕ) → List ℕ → List ℕ → Type 0
+Exchanged digest reading Done left taken written = IsAtEnd left × (length taken ≤ reading.most) × Answered digest (reading.all taken) written
+Exchanged digest reading BadWords left taken written = ⊥
+Exchanged digest reading ReadFault left taken written = (length taken ≤ reading.most) × Answered digest (reading.whole taken) written
+Exchanged digest reading WriteFault left taken written = (length taken ≤ reading.most) × BrokeOff digest reading left taken written
+Exchanged digest reading OutOfMemory left taken written = (length taken ≤ reading.most) × BrokeOff digest reading left taken written
+Exchanged digest reading TooMuch left taken written =
+    (length taken ≡ reading.most + 1) × Answered digest (reading.whole (take reading.most taken)) written
 
 -- what was taken stood at the front of the input, and what was written stands at the end of the output, where input
 -- and output tell their bytes
-pub record Runs (digest : Digest) (status : Status) (left_before left_after out_before out_after : Option (List ℕ)) : Type 0 where
+pub record Runs (digest : Digest) (reading : Reading) (status : Status) (left_before left_after out_before out_after : Option (List ℕ)) : Type 0 where
   pub taken : List ℕ
   pub written : List ℕ
   pub input : left_before ≡ prepend_known taken left_after
   pub output : out_after ≡ append_known out_before written
-  pub exchanged : Exchanged digest status left_after taken written
+  pub exchanged : Exchanged digest reading status left_after taken written

@@ -1,19 +1,17 @@
-ghost use Rattle.std.specs.Prelude.{◌≡◌, ◌++◌, ◌∷◌, ◌≤◌, ◌<◌, ◌+◌, [], ℕ, List, Err, length, take, drop, IfOk, IfSome, IfNone, OnOk, OnErr};
+ghost use Rattle.std.specs.Prelude.{◌≡◌, ◌≤◌, Err, drop, length, IfOk, OnOk, OnErr, List, ℕ};
 ghost use Rattle.std.specs.Io.KnownBytes.{append_known};
 ghost use Rattle.dw_outside.specs.Faults.{Rose};
-ghost use Rattle.datawave.specs.Lines.{kept, whole_lines_after, rest_after};
-ghost use Rattle.dw_wire.specs.ReadLine.{read_line as request_on};
 ghost use Rattle.dw_wire.specs.ReplyText.{reply_text};
 ghost use Rattle.dw_desk.specs.Desk.{state_of};
-ghost use Rattle.datawave.specs.Exchange.{AnswersLine, LinePut, LineLacks, LinesPut, LinesLack, PartPut};
+ghost use Rattle.dw_desk.specs.Session.{Answers, Asked};
+ghost use Rattle.datawave.specs.Exchange.{PartPut, RequestLacks, RequestPut};
 ghost use Rattle.datawave.specs.Texts.{text_of};
 
-use crate::line::Line;
 use dw_desk::Desk;
 use dw_event::UidMaker;
 use dw_key::{Bytes, OutOfMemory};
 use dw_outside::{Failed, Sink};
-use dw_wire::{Reply, Request, Why, memory_line, read_line, write_reply};
+use dw_wire::{Reply, Request, Why, memory_line, write_reply};
 use std::alloc::Global;
 
 /// Why an exchange broke off.
@@ -52,32 +50,22 @@ impl Text {
     }
 }
 
-/// The request that a line is. A line that is too long is none.
-fn request_of(alloc: Global, line: &Line) -> Result<Result<Request, Why>, OutOfMemory>
-    ensures { IfOk result (λ r. (bytes : List ℕ) → line.now ≡ kept bytes → r ≡ request_on bytes) }
-{
-    match line.bytes() {
-        Some(bytes) => read_line(alloc, bytes),
-        None => Ok(Err(Why::Line)),
-    }
-}
-
-/// Answers a line, and gives the text of the answer. An error means that the request was answered, and
-/// that its text found no memory.
-fn answer_line<U: UidMaker>(
+/// Answers a request, where it was read, and gives the text of the answer. An error means that the request was answered, and that
+/// its text found no memory.
+fn answer<U: UidMaker>(
     alloc: Global,
     desk: &mut Desk,
     uids: &U,
-    line: &Line,
+    request: &Result<Result<Request, Why>, OutOfMemory>,
 ) -> Result<Text, OutOfMemory>
-    ensures text { IfOk result (λ text. (bytes : List ℕ) → line.now ≡ kept bytes → AnswersLine U.digest (state_of desk.old) bytes (text_of text) (state_of desk.new)) }
-    ensures err { OnErr result ((bytes : List ℕ) → line.now ≡ kept bytes → (text : List ℕ) × AnswersLine U.digest (state_of desk.old) bytes text (state_of desk.new)) }
+    ensures text { IfOk result (λ text. (asked : Asked) → IfOk request.now (λ r. r ≡ asked) → Answers U.digest (state_of desk.old) asked (text_of text) (state_of desk.new) 0) }
+    ensures err { OnErr result ((asked : Asked) → IfOk request.now (λ r. r ≡ asked) → (text : List ℕ) × Answers U.digest (state_of desk.old) asked text (state_of desk.new) 0) }
 {
-    let request = match request_of(alloc, line) {
+    let request = match request {
         Ok(request) => request,
         Err(_) => return Ok(Text::Memory),
     };
-    match desk.answer(alloc, uids, &request) {
+    match desk.answer(alloc, uids, request) {
         Reply::OutOfMemory => Ok(Text::Memory),
         reply => {
             let bytes = write_reply(alloc, &reply)?;
@@ -87,7 +75,7 @@ fn answer_line<U: UidMaker>(
 }
 
 /// The bytes after the first `count`.
-fn after(bytes: &[u8], count: usize) -> &[u8]
+pub fn after(bytes: &[u8], count: usize) -> &[u8]
     requires { count ≤ length bytes.now }
     ensures { result.now ≡ drop count bytes.now }
 {
@@ -109,20 +97,21 @@ fn put_all<O: Sink>(output: &mut O, text: &[u8]) -> Result<(), Failed>
     Ok(())
 }
 
-/// Answers a line, and puts the text of the answer before it returns.
-pub fn exchange_line<U: UidMaker, O: Sink>(
+/// Answers a request, and puts the text of the answer before it returns. Where there was no memory to read the request, the text says
+/// that.
+pub fn exchange<U: UidMaker, O: Sink>(
     alloc: Global,
     desk: &mut Desk,
     uids: &U,
-    line: &Line,
+    request: &Result<Result<Request, Why>, OutOfMemory>,
     output: &mut O,
 ) -> Result<(), Broken>
-    ensures put { OnOk result ((bytes : List ℕ) → line.now ≡ kept bytes → LinePut U.digest (state_of desk.old) (O.taken output.old) bytes (state_of desk.new) (O.taken output.new)) }
-    ensures lacks { OnErr result ((bytes : List ℕ) → line.now ≡ kept bytes → LineLacks U.digest (state_of desk.old) (O.taken output.old) bytes (O.taken output.new)) }
+    ensures put { OnOk result ((asked : Asked) → IfOk request.now (λ r. r ≡ asked) → RequestPut U.digest (state_of desk.old) (O.taken output.old) asked (state_of desk.new) (O.taken output.new)) }
+    ensures lacks { OnErr result ((asked : Asked) → IfOk request.now (λ r. r ≡ asked) → RequestLacks U.digest (state_of desk.old) (O.taken output.old) asked (O.taken output.new)) }
     ensures counted { O.faults output.old ≤ O.faults output.new }
     ensures failed { result ≡ Err Broken.WriteFault → Rose (O.faults output.old) (O.faults output.new) }
 {
-    let text = match answer_line(alloc, desk, uids, line) {
+    let text = match answer(alloc, desk, uids, request) {
         Ok(text) => text,
         Err(_) => return Err(Broken::OutOfMemory),
     };
@@ -130,59 +119,4 @@ pub fn exchange_line<U: UidMaker, O: Sink>(
         Ok(()) => Ok(()),
         Err(_) => Err(Broken::WriteFault),
     }
-}
-
-/// Where the first line feed stands.
-fn find_feed(bytes: &[u8]) -> Option<usize>
-    ensures within { IfSome result (λ at. at < length bytes.now) }
-    ensures found { IfSome result (λ at. (front : List ℕ) → whole_lines_after front bytes.now ≡ (front ++ take at bytes.now) ∷ whole_lines_after [] (drop (at + 1) bytes.now)) }
-    ensures left { IfSome result (λ at. (front : List ℕ) → rest_after front bytes.now ≡ rest_after [] (drop (at + 1) bytes.now)) }
-    ensures none { IfNone result ((front : List ℕ) → whole_lines_after front bytes.now ≡ []) }
-    ensures all { IfNone result ((front : List ℕ) → rest_after front bytes.now ≡ front ++ bytes.now) }
-{
-    for (i, byte) in bytes.iter().enumerate() {
-        if *byte == b'\n' {
-            return Some(i);
-        }
-    }
-    None
-}
-
-/// The bytes before the first line feed and those after it.
-fn split_feed(bytes: &[u8]) -> Option<(&[u8], &[u8])>
-    ensures found { IfSome result (λ parts. (front : List ℕ) → whole_lines_after front bytes.now ≡ (front ++ parts.0.now) ∷ whole_lines_after [] parts.1.now) }
-    ensures left { IfSome result (λ parts. (front : List ℕ) → rest_after front bytes.now ≡ rest_after [] parts.1.now) }
-    ensures shorter { IfSome result (λ parts. length parts.1.now < length bytes.now) }
-    ensures none { IfNone result ((front : List ℕ) → whole_lines_after front bytes.now ≡ []) }
-    ensures all { IfNone result ((front : List ℕ) → rest_after front bytes.now ≡ front ++ bytes.now) }
-{
-    let at = find_feed(bytes)?;
-    let (text, rest) = bytes.split_at(at);
-    Some((text, after(rest, 1)))
-}
-
-/// Answers each line that ends in a piece of the input, and keeps what stands after the last line feed.
-pub fn exchange_piece<U: UidMaker, O: Sink>(
-    alloc: Global,
-    desk: &mut Desk,
-    uids: &U,
-    line: &mut Line,
-    piece: &[u8],
-    output: &mut O,
-) -> Result<(), Broken>
-    ensures put { OnOk result ((front : List ℕ) → line.old ≡ kept front → LinesPut U.digest (state_of desk.old) (O.taken output.old) (whole_lines_after front piece.now) (state_of desk.new) (O.taken output.new)) }
-    ensures rest { OnOk result ((front : List ℕ) → line.old ≡ kept front → line.new ≡ kept (rest_after front piece.now)) }
-    ensures lacks { OnErr result ((front : List ℕ) → line.old ≡ kept front → LinesLack U.digest (state_of desk.old) (O.taken output.old) (whole_lines_after front piece.now) (O.taken output.new)) }
-    ensures counted { O.faults output.old ≤ O.faults output.new }
-    ensures failed { result ≡ Err Broken.WriteFault → Rose (O.faults output.old) (O.faults output.new) }
-{
-    let mut rest = piece;
-    while let Some((text, more)) = split_feed(rest) {
-        line.add(text)?;
-        exchange_line(alloc, desk, uids, line, output)?;
-        line.clear();
-        rest = more;
-    }
-    line.add(rest)?;
-    Ok(())
 }

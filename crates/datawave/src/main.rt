@@ -2,31 +2,74 @@
 //! found by queries.
 #![tactic(auto)]
 
-ghost use Rattle.std.specs.Prelude.{◌≡◌, ◌≢◌, ◌↔◌, false, IfErr};
+ghost use Rattle.std.specs.Prelude.{◌≡◌, ◌≢◌, ◌↔◌, None, Some, IfErr};
 ghost use Rattle.dw_outside.specs.Faults.{Rose};
 ghost use Rattle.datawave.specs.Session.{Runs};
-ghost use Rattle.datawave.specs.Words.{is_exec};
+ghost use Rattle.datawave.specs.Readings.{reading_of};
+ghost use Rattle.datawave.specs.declared.command.Command.{Command};
+ghost use Rattle.datawave.specs.Words.{command};
 
+mod by_lines;
 mod command;
 mod exchange;
-mod exec;
+mod feeds;
+mod gathering;
+mod intake;
 mod line;
+mod lines;
+mod record_lines;
+mod record_table;
+mod request_lines;
 mod status;
+mod work;
 
-use command::is_exec_command;
+use by_lines::ByLines;
+use command::{Command, Form, are_command, read_command};
 use dw_event::{ShaUid, UidMaker};
 use dw_key::Text;
 use dw_outside::{Sink, Source, StdInput, StdOutput};
-use exec::exec;
+use intake::work_through;
+use record_lines::RecordLines;
+use record_table::RecordTable;
+use request_lines::RequestLines;
 use status::Status;
 use std::alloc::Global;
 use std::env;
 use std::io::ErrorKind;
 use std::process::ExitCode;
 
-#[tactic(auto, using(crate::proofs::Running::ends_bad_words))]
-/// Does all that the program does: reads request lines from the input and writes a reply line for each
-/// to the output.
+/// Reads what the command asks for from the input, and writes a reply line for each request to the output before the next one
+/// is answered.
+fn carry_out<S: Source, O: Sink, U: UidMaker>(
+    alloc: Global,
+    command: Command,
+    input: &mut S,
+    output: &mut O,
+    uids: &U,
+) -> Status
+    ensures runs { Runs U.digest (reading_of command) result (S.left input.old) (S.left input.new) (O.taken output.old) (O.taken output.new) }
+    ensures words { result ≢ Status.BadWords }
+    ensures read_fault { result ≡ Status.ReadFault → Rose (S.faults input.old) (S.faults input.new) }
+    ensures write_fault { result ≡ Status.WriteFault → Rose (O.faults output.old) (O.faults output.new) }
+{
+    match command {
+        Command::Exec => {
+            let work = ByLines::new(alloc, RequestLines);
+            work_through(alloc, work, input, output, uids)
+        }
+        Command::Ingest { form: Form::Json } => {
+            let work = ByLines::new(alloc, RecordLines::new(alloc));
+            work_through(alloc, work, input, output, uids)
+        }
+        Command::Ingest { form: Form::Csv } => {
+            let work = RecordTable::new(alloc);
+            work_through(alloc, work, input, output, uids)
+        }
+    }
+}
+
+/// Does all that the program does: reads request lines, or records in groups, from the input and writes a reply line for each
+/// request to the output.
 pub fn run<S: Source, O: Sink, U: UidMaker>(
     alloc: Global,
     words: &[Text],
@@ -34,19 +77,24 @@ pub fn run<S: Source, O: Sink, U: UidMaker>(
     output: &mut O,
     uids: &U,
 ) -> Status
-    // What was read, what was answered and what was written, at each end.
-    ensures runs { Runs U.digest result (S.left input.old) (S.left input.new) (O.taken output.old) (O.taken output.new) }
+    // What was read, what was answered and what was written, at each end of each command.
+    ensures runs { (c : Command) → command words.now ≡ Some c →
+        Runs U.digest (reading_of c) result (S.left input.old) (S.left input.new) (O.taken output.old) (O.taken output.new) }
 
     // When each status comes.
-    ensures bad_words { (result ≡ Status.BadWords) ↔ (is_exec words.now ≡ false) }
+    ensures bad_words { (result ≡ Status.BadWords) ↔ (command words.now ≡ None) }
     ensures untouched { result ≡ Status.BadWords → (input.new ≡ input.old) × (output.new ≡ output.old) }
     ensures read_fault { result ≡ Status.ReadFault → Rose (S.faults input.old) (S.faults input.new) }
     ensures write_fault { result ≡ Status.WriteFault → Rose (O.faults output.old) (O.faults output.new) }
 {
-    if !is_exec_command(words) {
+    if !are_command(words) {
         return Status::BadWords;
     }
-    exec(alloc, input, output, uids)
+    match read_command(alloc, words) {
+        Ok(Some(command)) => carry_out(alloc, command, input, output, uids),
+        Ok(None) => Status::BadWords,
+        Err(_) => Status::OutOfMemory,
+    }
 }
 
 /// The words after the program's name, or how the run ends where there are none to be had. A word that

@@ -8,6 +8,8 @@ use dw_outside::{MemSink, MemSource};
 use std::alloc::Global;
 use std::test::Fail;
 
+mod groups;
+mod laboratory;
 mod scripts;
 mod stops;
 
@@ -25,7 +27,24 @@ fn calls(alloc: Global, call: u64) -> Result<Vec<u64>, OutOfMemory> {
     Ok(calls)
 }
 
-/// The status of `exec` over these lines, whose n-th take and m-th put fail, and what was written.
+/// The status of a command over these bytes, whose n-th take and m-th put fail, and what was written.
+fn ends_of<U: UidMaker>(
+    alloc: Global,
+    uids: &U,
+    words: &[&str],
+    input: &[u8],
+    take: u64,
+    put: u64,
+) -> Result<(Status, Bytes), OutOfMemory> {
+    let bytes = Bytes::of(alloc, input)?;
+    let mut source = MemSource::new(bytes, 100, calls(alloc, take)?);
+    let mut sink = MemSink::new(alloc, 65_536, calls(alloc, put)?)?;
+    let words = words_of(alloc, words)?;
+    let status = run(alloc, words.as_slice(), &mut source, &mut sink, uids);
+    Ok((status, Bytes::of(alloc, sink.bytes())?))
+}
+
+/// The same of `exec` over these lines.
 fn ends<U: UidMaker>(
     alloc: Global,
     uids: &U,
@@ -33,12 +52,7 @@ fn ends<U: UidMaker>(
     take: u64,
     put: u64,
 ) -> Result<(Status, Bytes), OutOfMemory> {
-    let bytes = Bytes::of(alloc, input.as_bytes())?;
-    let mut source = MemSource::new(bytes, 100, calls(alloc, take)?);
-    let mut sink = MemSink::new(alloc, 65_536, calls(alloc, put)?)?;
-    let words = words_of(alloc, &["exec"])?;
-    let status = run(alloc, words.as_slice(), &mut source, &mut sink, uids);
-    Ok((status, Bytes::of(alloc, sink.bytes())?))
+    ends_of(alloc, uids, &["exec"], input.as_bytes(), take, put)
 }
 
 #[test]
@@ -103,10 +117,35 @@ fn are_refused(alloc: Global, words: &[&str]) -> Result<bool, OutOfMemory> {
 fn other_words_are_refused(rt: HostRuntime) -> Result<(), Fail> {
     let none = are_refused(rt.alloc(), &[])?;
     assert!(rt; none);
-    let help = are_refused(rt.alloc(), &["help"])?;
-    assert!(rt; help);
-    let two = are_refused(rt.alloc(), &["exec", "exec"])?;
-    assert!(rt; two);
+    for word in ["help", "", "Exec", "ingest", "--form=csv"] {
+        let refused = are_refused(rt.alloc(), &[word])?;
+        assert!(rt; refused, "{word}");
+    }
+    for (word, next) in [
+        ("exec", "exec"),
+        ("exec", "--"),
+        ("exec", "--form=csv"),
+        ("ingest", "--form"),
+        ("ingest", "--form="),
+        ("ingest", "--form=xml"),
+        ("ingest", "--form=CSV"),
+        ("ingest", "csv"),
+        ("ingest", "--"),
+    ] {
+        let refused = are_refused(rt.alloc(), &[word, next])?;
+        assert!(rt; refused, "{word} {next}");
+    }
+    for (form, next) in [
+        ("--form", ""),
+        ("--form", "xml"),
+        ("--form=csv", "--form=csv"),
+        ("--form=json", "more"),
+    ] {
+        let refused = are_refused(rt.alloc(), &["ingest", form, next])?;
+        assert!(rt; refused, "{form} {next}");
+    }
+    let more = are_refused(rt.alloc(), &["ingest", "--form", "csv", "more"])?;
+    assert!(rt; more);
     Ok(())
 }
 

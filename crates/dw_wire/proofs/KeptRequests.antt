@@ -16,16 +16,17 @@ use Rattle.dw_wire.specs.declared.request.Why.{Why}
 use Rattle.dw_wire.specs.declared.request.Why.TheVariants as why
 use Rattle.dw_wire.specs.QueryTexts.{query_of}
 use Rattle.dw_base.specs.Callers.{is_caller}
-use Rattle.dw_wire.specs.ReadLine.{json_of, bool_at, array_at, texts_at, asked_texts, whole_at, counted_to, needed, needed_query, caller_of, auths_of, asked_auths, asked_types, batch_of, rows_of, rows_batch, rule_of, days_of, size_at, define_with, define_of, grant_with, grant_of, ingest_with, ingest_of, create_as, create_with, create_of, page_with, page_of, close_with, close_of, request_named, request_of, read_line}
-use Rattle.dw_wire.specs.WellFormed.{IsAuthSet, IsSpelt, IsBatch, are_days, are_types, is_counted_to, is_query_number, IsWellFormed}
+use Rattle.dw_wire.specs.ReadLine.{bool_at, array_at, texts_at, asked_texts, whole_at, counted_to, needed, needed_query, caller_of, auths_of, asked_auths, asked_types, rule_of, days_of, size_at, define_with, define_members, define_in, define_of, grant_with, grant_members, grant_in, grant_of, ingest_with, records_in, ingest_of, create_as, create_with, create_members, create_in, create_of, page_with, page_of, close_with, close_of, request_named, request_of, read_from, in_text, read_line}
+use Rattle.dw_groups.specs.Batches.{json_of, batch_of, rows_of, rows_batch, IsBatch}
+use Rattle.dw_wire.specs.WellFormed.{IsAuthSet, IsSpelt, are_days, are_types, is_counted_to, is_query_number, IsWellFormed}
 use Rattle.dw_wire.proofs.KeptTexts.{field_known, caller_known, number_known, query_known, days_known, types_known, auths_kept, asked_known}
-use Rattle.dw_wire.proofs.KeptBatches.{batch_known, rows_known}
+use Rattle.dw_groups.proofs.KeptBatches.{batch_known, rows_known}
 
 -- what is read is well formed, where it is a request
-record Kept (r : Result Request Why) : Type 0 where
+pub record Kept (r : Result Request Why) : Type 0 where
   pub holds : IfOk r IsWellFormed
 
-refused : (reason : Why) → Kept (Err reason)
+pub refused : (reason : Why) → Kept (Err reason)
 refused reason = record { holds = tt }
 
 read_as : (request : Request) → IsWellFormed request → Kept (Ok request)
@@ -37,7 +38,7 @@ with_part reason None rest h k = refused reason
 with_part reason (Some a) rest h k = k a h.holds
 
 -- a part of the form that it must have
-with_form : {A : Type 0} (o : Option A) (rest : A → Result Request Why) → ((a : A) → Kept (rest a)) → Kept (needed why.Shape o rest)
+pub with_form : {A : Type 0} (o : Option A) (rest : A → Result Request Why) → ((a : A) → Kept (rest a)) → Kept (needed why.Shape o rest)
 with_form None rest k = refused why.Shape
 with_form (Some a) rest k = k a
 
@@ -45,40 +46,43 @@ with_query : (r : Result Query QueryRule) (rest : Query → Result Request Why) 
 with_query (Err rule) rest k = refused (why.Query rule)
 with_query (Ok q) rest k = k q refl
 
-either : (b : Bool) (x y : Result Request Why) → Kept x → Kept y → Kept (cond b x y)
+pub either : (b : Bool) (x y : Result Request Why) → Kept x → Kept y → Kept (cond b x y)
 either true x y h k = h
 either false x y h k = k
 
-define_right : (name kind : List ℕ) (indexed reversed : Bool) → Kept (define_with name kind indexed reversed)
-define_right name kind indexed reversed =
+define_parts : (name kind : List ℕ) (indexed reversed : Bool) → Kept (define_with name kind indexed reversed)
+define_parts name kind indexed reversed =
     with_part why.Field (field_of name) _ (field_known name) (λ field h.
     with_part why.Kind (rule_of kind indexed reversed) _ (any_known (rule_of kind indexed reversed)) (λ rule _. read_as (Define field rule) h))
 
-define_kept : (d : Data) → Kept (define_of d)
-define_kept d =
-    either (has_only (codes "op" ∷ codes "field" ∷ codes "kind" ∷ codes "indexed" ∷ codes "reversed" ∷ []) d) _ (Err why.Shape)
-    (with_form (text_at (codes "field") d) _ (λ name. with_form (text_at (codes "kind") d) _ (λ kind.
-    with_form (bool_at (codes "indexed") d) _ (λ indexed. with_form (bool_at (codes "reversed") d) _ (λ reversed. define_right name kind indexed reversed)))))
-    (refused why.Shape)
+pub define_right : (d : Data) → Kept (define_in d)
+define_right d =
+    with_form (text_at (codes "field") d) _ (λ name. with_form (text_at (codes "kind") d) _ (λ kind.
+    with_form (bool_at (codes "indexed") d) _ (λ indexed. with_form (bool_at (codes "reversed") d) _ (λ reversed. define_parts name kind indexed reversed))))
 
-grant_right : (caller : List ℕ) (names : Items) → Kept (grant_with caller names)
-grant_right caller names =
+define_kept : (d : Data) → Kept (define_of d)
+define_kept d = either (has_only (codes "op" ∷ define_members) d) _ (Err why.Shape) (define_right d) (refused why.Shape)
+
+grant_parts : (caller : List ℕ) (names : Items) → Kept (grant_with caller names)
+grant_parts caller names =
     with_part why.Caller (caller_of caller) _ (caller_known caller) (λ who w.
     with_part why.Auths (auths_of names) _ (auths_kept names) (λ auths a. read_as (Grant who auths) (w, a)))
 
-grant_kept : (d : Data) → Kept (grant_of d)
-grant_kept d =
-    either (has_only (codes "op" ∷ codes "caller" ∷ codes "auths" ∷ []) d) _ (Err why.Shape)
-    (with_form (text_at (codes "caller") d) _ (λ caller. with_form (texts_at (codes "auths") d) _ (λ names. grant_right caller names)))
-    (refused why.Shape)
+pub grant_right : (d : Data) → Kept (grant_in d)
+grant_right d = with_form (text_at (codes "caller") d) _ (λ caller. with_form (texts_at (codes "auths") d) _ (λ names. grant_parts caller names))
 
-batch_right : (batch : Option (List (Result Record BadRecord))) → Gives batch IsBatch → Kept (ingest_with batch)
+grant_kept : (d : Data) → Kept (grant_of d)
+grant_kept d = either (has_only (codes "op" ∷ grant_members) d) _ (Err why.Shape) (grant_right d) (refused why.Shape)
+
+pub batch_right : (batch : Option (List (Result Record BadRecord))) → Gives batch IsBatch → Kept (ingest_with batch)
 batch_right batch h = with_part why.Records batch _ h (λ recs b. read_as (Ingest recs) b)
+
+pub records_right : (d : Data) → Kept (records_in d)
+records_right d = with_form (array_at (codes "records") d) _ (λ ds. batch_right (batch_of ds) (batch_known ds))
 
 ingest_kept : (d : Data) → Kept (ingest_of d)
 ingest_kept d =
-    either (has_only (codes "op" ∷ codes "records" ∷ []) d) _ _
-    (with_form (array_at (codes "records") d) _ (λ ds. batch_right (batch_of ds) (batch_known ds)))
+    either (has_only (codes "op" ∷ codes "records" ∷ []) d) _ _ (records_right d)
     (either (has_only (codes "op" ∷ codes "csv" ∷ []) d) _ (Err why.Shape)
     (with_form (text_at (codes "csv") d) _ (λ text. batch_right (rows_batch (rows_of text)) (rows_known (rows_of text))))
     (refused why.Shape))
@@ -101,16 +105,20 @@ create_right caller names text first last types size =
     with_part why.Auths (asked_auths names) _ (asked_known names) (λ auths a.
     with_query (query_of text) _ (λ query e. query_right who auths query first last types size c a (query_known text query e))))
 
-create_kept : (d : Data) → Kept (create_of d)
-create_kept d =
-    either (has_only (codes "op" ∷ codes "caller" ∷ codes "query" ∷ codes "from" ∷ codes "to" ∷ codes "types" ∷ codes "size" ∷ codes "auths" ∷ []) d) _ (Err why.Shape)
-    (with_form (text_at (codes "caller") d) _ (λ caller. with_form (text_at (codes "query") d) _ (λ text.
+pub create_in_right : (caller : List ℕ) (d : Data) → Kept (create_in caller d)
+create_in_right caller d =
+    with_form (text_at (codes "query") d) _ (λ text.
     with_form (text_at (codes "from") d) _ (λ first. with_form (text_at (codes "to") d) _ (λ last.
     with_form (asked_texts (codes "auths") d) _ (λ names. with_form (asked_texts (codes "types") d) _ (λ types.
-    with_form (size_at d) _ (λ size. create_right caller names text first last types size))))))))
+    with_form (size_at d) _ (λ size. create_right caller names text first last types size))))))
+
+create_kept : (d : Data) → Kept (create_of d)
+create_kept d =
+    either (has_only (codes "op" ∷ codes "caller" ∷ create_members) d) _ (Err why.Shape)
+    (with_form (text_at (codes "caller") d) _ (λ caller. create_in_right caller d))
     (refused why.Shape)
 
-page_right : (caller : List ℕ) (number page : Option ℕ) → Kept (page_with caller number page)
+pub page_right : (caller : List ℕ) (number page : Option ℕ) → Kept (page_with caller number page)
 page_right caller number page =
     with_part why.Caller (caller_of caller) _ (caller_known caller) (λ who c.
     with_part why.Number (counted_to 9223372036854775807 number) _ (number_known 9223372036854775807 number) (λ n m.
@@ -124,7 +132,7 @@ page_kept d =
     with_form (whole_at (codes "page") d) _ (λ page. page_right caller number page))))
     (refused why.Shape)
 
-close_right : (caller : List ℕ) (number : Option ℕ) → Kept (close_with caller number)
+pub close_right : (caller : List ℕ) (number : Option ℕ) → Kept (close_with caller number)
 close_right caller number =
     with_part why.Caller (caller_of caller) _ (caller_known caller) (λ who c.
     with_part why.Number (counted_to 9223372036854775807 number) _ (number_known 9223372036854775807 number) (λ n m. read_as (Close who n)
@@ -148,10 +156,15 @@ named_kept op d =
 request_kept : (d : Data) → Kept (request_of d)
 request_kept d = with_form (text_at (codes "op") d) _ (λ op. named_kept op d)
 
+-- what follows from a text of JSON
+pub text_kept : (text : List ℕ) (rest : Data → Result Request Why) → ((d : Data) → Kept (rest d)) → Kept (in_text text rest)
+text_kept text rest k = at (nat_le (length text) 4194304) (json_of text)
+  where
+    at : (b : Bool) (o : Option Data) → Kept (read_from (cond b (needed why.Json o Ok) (Err why.Line)) rest)
+    at true None = refused why.Json
+    at true (Some d) = k d
+    at false o = refused why.Line
+
 pub line_kept : (line : List ℕ) → IfOk (read_line line) IsWellFormed
 unfolding read_line
-line_kept line = (either (nat_le (length line) 4194304) (needed why.Json (json_of line) request_of) (Err why.Line) (of_json (json_of line)) (refused why.Line)).holds
-  where
-    of_json : (o : Option Data) → Kept (needed why.Json o request_of)
-    of_json None = refused why.Json
-    of_json (Some d) = request_kept d
+line_kept line = (text_kept line request_of request_kept).holds

@@ -19,7 +19,8 @@ use Rattle.dw_rows.specs.Entries.{field_of}
 use Rattle.dw_rows.proofs.KeptSteps.{Gives, nothing, just, guarded_known, guarded_some, then_known, map_known, any_known, all_put, put_few}
 use Rattle.dw_rows.proofs.Folded.{folded}
 use Rattle.dw_base.specs.Callers.{is_caller, is_auth}
-use Rattle.dw_wire.specs.ReadLine.{caller_of, counted_to, type_names, only_of, asked_types, days_of, with_auths, items_count, auths_of, asked_auths}
+use Rattle.dw_groups.specs.Batches.{items_count}
+use Rattle.dw_wire.specs.ReadLine.{caller_of, counted_to, type_names, only_of, asked_types, days_of, with_auths, auths_of, asked_auths}
 use Rattle.dw_wire.specs.WellFormed.{IsAuthSet, IsSpelt, are_days, are_types, is_counted_to}
 use Rattle.dw_wire.specs.QueryTexts.{query_of}
 use Rattle.dw_wire.proofs.QueryLaws.{queries_spelt}

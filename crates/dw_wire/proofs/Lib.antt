@@ -5,8 +5,8 @@ pub mod WritingFields
 pub mod WritingLists
 pub mod Counting
 pub mod ReadingTypes
-pub mod Batches
-pub mod CsvRows
 pub mod KeptTexts
-pub mod KeptBatches
 pub mod KeptRequests
+pub mod KeptRoutes
+pub mod CallerBytes
+pub mod ReadingValues

@@ -1,12 +1,10 @@
 -- What request a line is, or why it is none.
-use Rattle.std.specs.Prelude.{ℕ, ◌+◌, ◌&&◌, Bool, true, nat_le, List, [], ◌∷◌, length, map, Option, Some, None, Result, Ok, Err, option_map, option_and_then, is_some, codes, if◌then◌else◌}
+use Rattle.std.specs.Prelude.{ℕ, ◌&&◌, Bool, true, nat_le, List, [], ◌∷◌, length, Option, Some, None, Result, Ok, Err, option_map, option_and_then, is_some, codes, if◌then◌else◌}
 use Rattle.std.specs.List.{list_all}
-use Rattle.std.specs.Str.{is_utf8, bytes_eq}
+use Rattle.std.specs.Str.{bytes_eq}
 use Rattle.std.specs.Ordering.{nat_cmp, is_le}
 use Rattle.std.specs.Cmp.Lexicographic.{slice_cmp}
-use Rattle.csv.specs.Reading.{default_config, strip_bom, records}
 use Rattle.serde_json.specs.Data.{Num, unsigned, negative, float, Data, Items, no_items, item}
-use Rattle.serde_json.specs.Read.{read}
 use Rattle.serde_json.specs.Find.{get, as_bool, as_str, as_number, as_array}
 use Rattle.dw_base.specs.Days.{day_digits}
 use Rattle.dw_key.specs.TypeName.{is_type_name}
@@ -25,11 +23,10 @@ use Rattle.dw_jexl.specs.declared.error.QueryRule.{QueryRule}
 use Rattle.dw_jexl.specs.declared.query.Query.{Query}
 use Rattle.dw_rows.specs.Values.{guarded, text_at, has_only}
 use Rattle.dw_rows.specs.Entries.{field_of}
-use Rattle.dw_rows.specs.JsonRecords.{json_record}
-use Rattle.dw_rows.specs.CsvRecords.{csv_record}
+use Rattle.dw_groups.specs.Batches.{json_of, items_count, batch_of, rows_of, rows_batch}
 use Rattle.dw_base.specs.Callers.{is_caller, is_auth}
 use Rattle.dw_base.specs.declared.limits.TheConstants.{MAX_NAMES}
-use Rattle.dw_wire.specs.declared.limits.TheConstants.{MAX_LINE, MAX_RECORDS, MAX_TYPES, MAX_SIZE, MAX_NUMBER, MAX_PAGE}
+use Rattle.dw_wire.specs.declared.limits.TheConstants.{MAX_LINE, MAX_TYPES, MAX_SIZE, MAX_NUMBER, MAX_PAGE}
 use Rattle.dw_wire.specs.declared.request.Request.{Request}
 use Rattle.dw_wire.specs.declared.request.Request.TheVariants.{Define, Grant, Ingest, Create, Page, Close}
 use Rattle.dw_wire.specs.declared.request.Why.{Why}
@@ -41,10 +38,6 @@ abbrev pub max_line : ℕ
 max_line = MAX_LINE
 
 -- ---- values and members
-
--- the value that the bytes are, as JSON
-abbrev pub json_of : List ℕ → Option Data
-json_of bytes = guarded (is_utf8 bytes) (read bytes)
 
 -- a member that is a truth value
 abbrev pub bool_at : List ℕ → Data → Option Bool
@@ -81,10 +74,6 @@ whole_at name d = option_and_then whole_of (option_and_then as_number (get name 
 abbrev pub counted_to : ℕ → Option ℕ → Option ℕ
 counted_to most None = None
 counted_to most (Some n) = guarded (nat_le 1 n && nat_le n most) (Some n)
-
-abbrev pub items_count : Items → ℕ
-items_count no_items = 0
-items_count (item d ds) = items_count ds + 1
 
 -- ---- what must be there
 
@@ -134,26 +123,6 @@ abbrev pub asked_types : Option Items → Option Types
 asked_types None = Some All
 asked_types (Some ds) = only_of ds
 
--- ---- the records of an ingest
-
--- the records of values, each read or the first rule that it breaks
-abbrev pub records_of : Items → List (Result Record BadRecord)
-records_of no_items = []
-records_of (item d ds) = json_record d ∷ records_of ds
-
--- the records of a list of at most 10,000 values
-abbrev pub batch_of : Items → Option (List (Result Record BadRecord))
-batch_of ds = guarded (nat_le (items_count ds) MAX_RECORDS) (Some (records_of ds))
-
--- the rows of a text of CSV, without the byte order mark at its start
-abbrev pub rows_of : List ℕ → List (List (List ℕ))
-rows_of text = records default_config (strip_bom text)
-
--- the records of the rows behind a header, at most 10,000; where there is no header there is none
-abbrev pub rows_batch : List (List (List ℕ)) → Option (List (Result Record BadRecord))
-rows_batch [] = Some []
-rows_batch (header ∷ rows) = guarded (nat_le (length rows) MAX_RECORDS) (Some (map (csv_record header) rows))
-
 -- ---- the definition of a field
 
 -- the kind of a name
@@ -187,31 +156,42 @@ abbrev pub define_with : List ℕ → List ℕ → Bool → Bool → Result Requ
 define_with name kind indexed reversed =
     needed why.Field (field_of name) (λ field. needed why.Kind (rule_of kind indexed reversed) (λ rule. Ok (Define field rule)))
 
-abbrev pub define_of : Data → Result Request Why
-define_of d =
-    if has_only (codes "op" ∷ codes "field" ∷ codes "kind" ∷ codes "indexed" ∷ codes "reversed" ∷ []) d
-    then needed why.Shape (text_at (codes "field") d) (λ name. needed why.Shape (text_at (codes "kind") d) (λ kind.
+abbrev pub define_members : List (List ℕ)
+define_members = codes "field" ∷ codes "kind" ∷ codes "indexed" ∷ codes "reversed" ∷ []
+
+abbrev pub define_in : Data → Result Request Why
+define_in d =
+    needed why.Shape (text_at (codes "field") d) (λ name. needed why.Shape (text_at (codes "kind") d) (λ kind.
     needed why.Shape (bool_at (codes "indexed") d) (λ indexed. needed why.Shape (bool_at (codes "reversed") d) (λ reversed.
     define_with name kind indexed reversed))))
-    else Err why.Shape
+
+abbrev pub define_of : Data → Result Request Why
+define_of d = if has_only (codes "op" ∷ define_members) d then define_in d else Err why.Shape
 
 abbrev pub grant_with : List ℕ → Items → Result Request Why
 grant_with caller names =
     needed why.Caller (caller_of caller) (λ who. needed why.Auths (auths_of names) (λ auths. Ok (Grant who auths)))
 
+abbrev pub grant_members : List (List ℕ)
+grant_members = codes "caller" ∷ codes "auths" ∷ []
+
+abbrev pub grant_in : Data → Result Request Why
+grant_in d =
+    needed why.Shape (text_at (codes "caller") d) (λ caller. needed why.Shape (texts_at (codes "auths") d) (λ names. grant_with caller names))
+
 abbrev pub grant_of : Data → Result Request Why
-grant_of d =
-    if has_only (codes "op" ∷ codes "caller" ∷ codes "auths" ∷ []) d
-    then needed why.Shape (text_at (codes "caller") d) (λ caller. needed why.Shape (texts_at (codes "auths") d) (λ names. grant_with caller names))
-    else Err why.Shape
+grant_of d = if has_only (codes "op" ∷ grant_members) d then grant_in d else Err why.Shape
 
 -- what was read of a batch, where its records are not too many
 abbrev pub ingest_with : Option (List (Result Record BadRecord)) → Result Request Why
 ingest_with batch = needed why.Records batch (λ recs. Ok (Ingest recs))
 
+abbrev pub records_in : Data → Result Request Why
+records_in d = needed why.Shape (array_at (codes "records") d) (λ ds. ingest_with (batch_of ds))
+
 abbrev pub ingest_of : Data → Result Request Why
 ingest_of d =
-    if has_only (codes "op" ∷ codes "records" ∷ []) d then needed why.Shape (array_at (codes "records") d) (λ ds. ingest_with (batch_of ds))
+    if has_only (codes "op" ∷ codes "records" ∷ []) d then records_in d
     else if has_only (codes "op" ∷ codes "csv" ∷ []) d then needed why.Shape (text_at (codes "csv") d) (λ text. ingest_with (rows_batch (rows_of text)))
     else Err why.Shape
 
@@ -226,13 +206,22 @@ create_with caller names text first last types size =
     needed why.Caller (caller_of caller) (λ who. needed why.Auths (asked_auths names) (λ auths. needed_query (query_of text) (λ query.
     create_as who auths query first last types size)))
 
-abbrev pub create_of : Data → Result Request Why
-create_of d =
-    if has_only (codes "op" ∷ codes "caller" ∷ codes "query" ∷ codes "from" ∷ codes "to" ∷ codes "types" ∷ codes "size" ∷ codes "auths" ∷ []) d
-    then needed why.Shape (text_at (codes "caller") d) (λ caller. needed why.Shape (text_at (codes "query") d) (λ text.
+-- the members of a create but for its caller
+abbrev pub create_members : List (List ℕ)
+create_members = codes "query" ∷ codes "from" ∷ codes "to" ∷ codes "types" ∷ codes "size" ∷ codes "auths" ∷ []
+
+-- the create of a caller
+abbrev pub create_in : List ℕ → Data → Result Request Why
+create_in caller d =
+    needed why.Shape (text_at (codes "query") d) (λ text.
     needed why.Shape (text_at (codes "from") d) (λ first. needed why.Shape (text_at (codes "to") d) (λ last.
     needed why.Shape (asked_texts (codes "auths") d) (λ names. needed why.Shape (asked_texts (codes "types") d) (λ types.
-    needed why.Shape (size_at d) (λ size. create_with caller names text first last types size)))))))
+    needed why.Shape (size_at d) (λ size. create_with caller names text first last types size))))))
+
+abbrev pub create_of : Data → Result Request Why
+create_of d =
+    if has_only (codes "op" ∷ codes "caller" ∷ create_members) d
+    then needed why.Shape (text_at (codes "caller") d) (λ caller. create_in caller d)
     else Err why.Shape
 
 abbrev pub page_with : List ℕ → Option ℕ → Option ℕ → Result Request Why
@@ -272,6 +261,19 @@ request_named op d =
 abbrev pub request_of : Data → Result Request Why
 request_of d = needed why.Shape (text_at (codes "op") d) (λ op. request_named op d)
 
+-- the value that a text is, as JSON, where it is not too long
+abbrev pub value_in : List ℕ → Result Data Why
+value_in text = if nat_le (length text) max_line then needed why.Json (json_of text) Ok else Err why.Line
+
+-- what follows from a value that was read
+abbrev pub read_from : Result Data Why → (Data → Result Request Why) → Result Request Why
+read_from (Err reason) rest = Err reason
+read_from (Ok d) rest = rest d
+
+-- what follows from the value that a text is
+abbrev pub in_text : List ℕ → (Data → Result Request Why) → Result Request Why
+in_text text rest = read_from (value_in text) rest
+
 -- the request that a line is, or the first reason that holds why it is none
 unfoldable pub read_line : List ℕ → Result Request Why
-read_line line = if nat_le (length line) max_line then needed why.Json (json_of line) request_of else Err why.Line
+read_line line = in_text line request_of

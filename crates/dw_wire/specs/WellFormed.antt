@@ -1,14 +1,12 @@
 -- When a request is well formed: each of its parts keeps its rule and its limits.
-use Rattle.std.specs.Prelude.{ℕ, Bool, true, ◌&&◌, nat_le, IsTrue, IfOk, IfSome, List, length, Result}
-use Rattle.std.specs.List.{AllByRecursion, list_all}
+use Rattle.std.specs.Prelude.{ℕ, Bool, true, ◌&&◌, nat_le, IsTrue, IfSome, List, length}
+use Rattle.std.specs.List.{list_all}
 use Rattle.std.specs.Ordering.{nat_cmp, is_le}
 use Rattle.std.specs.Cmp.Lexicographic.{slice_cmp}
 use Rattle.dw_base.specs.Days.{names_day}
 use Rattle.dw_base.specs.FieldNames.{is_folded_name}
-use Rattle.dw_event.specs.Records as records
 use Rattle.dw_event.specs.declared.days.Days.{Days}
-use Rattle.dw_event.specs.declared.records.Record.{Record}
-use Rattle.dw_event.specs.declared.reports.BadRecord.{BadRecord}
+use Rattle.dw_groups.specs.Batches.{IsBatch}
 use Rattle.dw_vis.specs.Names.{IsAscending}
 use Rattle.dw_event.specs.declared.types.Types.{Types}
 use Rattle.dw_event.specs.declared.types.Types.TheVariants.{All, Only}
@@ -19,7 +17,7 @@ use Rattle.dw_wire.specs.declared.request.Request.{Request}
 use Rattle.dw_wire.specs.declared.request.Request.TheVariants.{Define, Grant, Ingest, Create, Page, Close}
 use Rattle.dw_base.specs.Callers.{is_auth, is_caller}
 use Rattle.dw_base.specs.declared.limits.TheConstants.{MAX_NAMES}
-use Rattle.dw_wire.specs.declared.limits.TheConstants.{MAX_RECORDS, MAX_TYPES, MAX_SIZE, MAX_NUMBER, MAX_PAGE}
+use Rattle.dw_wire.specs.declared.limits.TheConstants.{MAX_TYPES, MAX_SIZE, MAX_NUMBER, MAX_PAGE}
 
 -- at most 256 names of authorisations, each by its rule
 abbrev pub are_auths : List (List ℕ) → Bool
@@ -50,11 +48,6 @@ are_types (Only types) = is_counted_to MAX_TYPES (length types) && list_all is_t
 -- the number of a query: it fits in 63 bits
 abbrev pub is_query_number : ℕ → Bool
 is_query_number number = is_counted_to MAX_NUMBER number
-
--- at most 10,000 records, of which each that was read is well formed
-pub record IsBatch (recs : List (Result Record BadRecord)) : Type 0 where
-  pub few : IsTrue (nat_le (length recs) MAX_RECORDS)
-  pub each : AllByRecursion (λ rec. IfOk rec records.IsWellFormed) recs
 
 -- a request whose parts keep their rules
 abbrev pub IsWellFormed : Request → Type 0

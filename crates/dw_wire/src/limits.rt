@@ -3,9 +3,6 @@
 /// The most bytes of a line.
 pub const MAX_LINE: usize = 4_194_304;
 
-/// The most records of an ingest.
-pub const MAX_RECORDS: usize = 10_000;
-
 /// The most types of a query, as they are written.
 pub const MAX_TYPES: usize = 64;
 

@@ -1,7 +1,7 @@
-use crate::records::Records;
 use dw_base::Text;
 use dw_dict::FieldRule;
 use dw_event::{Days, Types};
+use dw_groups::Records;
 use dw_jexl::{Query, QueryRule};
 use dw_vis::Auths;
 

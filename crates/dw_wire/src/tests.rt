@@ -3,6 +3,9 @@ use dw_event::BadRecord;
 use std::alloc::Global;
 use std::test::Fail;
 
+mod limits;
+mod routes;
+
 /// The text that answers a line that is no request, without its line feed, or `read`.
 fn refusal(alloc: Global, line: &str) -> Result<String, Fail> {
     match read_line(alloc, line.as_bytes())? {

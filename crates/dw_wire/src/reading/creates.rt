@@ -1,6 +1,6 @@
 ghost use Rattle.std.specs.Prelude.{◌≡◌, IfOk, option_map};
 ghost use Rattle.serde_json.specs.View.{view, items_view};
-ghost use Rattle.dw_wire.specs.ReadLine.{create_as, create_with, create_of};
+ghost use Rattle.dw_wire.specs.ReadLine.{create_as, create_with, create_in as create_inside, create_of};
 
 use crate::OutOfMemory;
 use crate::limits::MAX_SIZE;
@@ -50,7 +50,7 @@ fn create_of_query(
 
 fn create_of_parts(
     alloc: Global,
-    caller: &str,
+    caller: &[u8],
     names: Option<&Vec<Value>>,
     text: &str,
     first: &str,
@@ -72,22 +72,15 @@ fn create_of_parts(
     }
 }
 
-/// The create that a value is: who asks, the text of a query, the days from one up to and with another, and
-/// perhaps types, names of authorisations and the size of a page.
-pub fn create(alloc: Global, value: &Value) -> Result<Result<Request, Why>, OutOfMemory>
-    ensures { IfOk result (λ r. r ≡ create_of (view value.now)) }
+/// The create of a caller that the members of a value are, whatever others it has: the text of a query, the days from one up
+/// to and with another, and perhaps types, names of authorisations and the size of a page.
+pub fn create_in(
+    alloc: Global,
+    caller: &[u8],
+    value: &Value,
+) -> Result<Result<Request, Why>, OutOfMemory>
+    ensures { IfOk result (λ r. r ≡ create_inside caller.now (view value.now)) }
 {
-    if !is_object_of(
-        &[
-            "op", "caller", "query", "from", "to", "types", "size", "auths",
-        ],
-        value,
-    ) {
-        return Ok(Err(Why::Shape));
-    }
-    let Some(caller) = text_member(value, "caller") else {
-        return Ok(Err(Why::Shape));
-    };
     let Some(text) = text_member(value, "query") else {
         return Ok(Err(Why::Shape));
     };
@@ -105,6 +98,24 @@ pub fn create(alloc: Global, value: &Value) -> Result<Result<Request, Why>, OutO
     };
     match size_member(value) {
         Some(size) => create_of_parts(alloc, caller, names, text, first, last, types, size),
+        None => Ok(Err(Why::Shape)),
+    }
+}
+
+/// The create that a value is, which says who asks.
+pub fn create(alloc: Global, value: &Value) -> Result<Result<Request, Why>, OutOfMemory>
+    ensures { IfOk result (λ r. r ≡ create_of (view value.now)) }
+{
+    if !is_object_of(
+        &[
+            "op", "caller", "query", "from", "to", "types", "size", "auths",
+        ],
+        value,
+    ) {
+        return Ok(Err(Why::Shape));
+    }
+    match text_member(value, "caller") {
+        Some(caller) => create_in(alloc, caller.as_bytes(), value),
         None => Ok(Err(Why::Shape)),
     }
 }

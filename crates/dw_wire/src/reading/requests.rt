@@ -1,18 +1,16 @@
 ghost use Rattle.std.specs.Prelude.{◌≡◌, IfOk, option_map};
 ghost use Rattle.serde_json.specs.View.{view, items_view};
-ghost use Rattle.dw_wire.specs.ReadLine.{define_with, define_of, grant_with, grant_of, ingest_with, ingest_of, page_with, page_of, close_with, close_of, request_named, request_of};
+ghost use Rattle.dw_wire.specs.ReadLine.{define_with, define_in as define_inside, define_of, grant_with, grant_in as grant_inside, grant_of, ingest_with, records_in as records_inside, ingest_of, page_with, page_of, close_with, close_of, request_named, request_of};
 
 use crate::OutOfMemory;
 use crate::limits::{MAX_NUMBER, MAX_PAGE};
 use crate::reading::auths::read_auths;
-use crate::reading::batches::read_batch;
 use crate::reading::creates::create;
 use crate::reading::definitions::{read_field, read_rule};
 use crate::reading::members::{bool_member, counted_to, list_member, texts_member, whole_member};
-use crate::reading::tables::read_table;
 use crate::reading::texts::read_caller;
-use crate::records::Records;
 use crate::request::{Request, Why};
+use dw_groups::{Records, read_batch, read_table};
 use dw_rows::{is_object_of, text_member};
 use serde_json::Value;
 use std::alloc::Global;
@@ -35,12 +33,10 @@ fn define_as(
     }
 }
 
-fn define(alloc: Global, value: &Value) -> Result<Result<Request, Why>, OutOfMemory>
-    ensures { IfOk result (λ r. r ≡ define_of (view value.now)) }
+/// The definition of a field that the members of a value are, whatever others it has.
+pub fn define_in(alloc: Global, value: &Value) -> Result<Result<Request, Why>, OutOfMemory>
+    ensures { IfOk result (λ r. r ≡ define_inside (view value.now)) }
 {
-    if !is_object_of(&["op", "field", "kind", "indexed", "reversed"], value) {
-        return Ok(Err(Why::Shape));
-    }
     let Some(name) = text_member(value, "field") else {
         return Ok(Err(Why::Shape));
     };
@@ -56,9 +52,18 @@ fn define(alloc: Global, value: &Value) -> Result<Result<Request, Why>, OutOfMem
     define_as(alloc, name, kind, indexed, reversed)
 }
 
+fn define(alloc: Global, value: &Value) -> Result<Result<Request, Why>, OutOfMemory>
+    ensures { IfOk result (λ r. r ≡ define_of (view value.now)) }
+{
+    if !is_object_of(&["op", "field", "kind", "indexed", "reversed"], value) {
+        return Ok(Err(Why::Shape));
+    }
+    define_in(alloc, value)
+}
+
 fn grant_as(
     alloc: Global,
-    caller: &str,
+    caller: &[u8],
     names: &[Value],
 ) -> Result<Result<Request, Why>, OutOfMemory>
     ensures { IfOk result (λ r. r ≡ grant_with caller.now (items_view names.now)) }
@@ -72,22 +77,30 @@ fn grant_as(
     }
 }
 
+/// The grant that the members of a value are, whatever others it has.
+pub fn grant_in(alloc: Global, value: &Value) -> Result<Result<Request, Why>, OutOfMemory>
+    ensures { IfOk result (λ r. r ≡ grant_inside (view value.now)) }
+{
+    let Some(caller) = text_member(value, "caller") else {
+        return Ok(Err(Why::Shape));
+    };
+    match texts_member(value, "auths") {
+        Some(names) => grant_as(alloc, caller.as_bytes(), names.as_slice()),
+        None => Ok(Err(Why::Shape)),
+    }
+}
+
 fn grant(alloc: Global, value: &Value) -> Result<Result<Request, Why>, OutOfMemory>
     ensures { IfOk result (λ r. r ≡ grant_of (view value.now)) }
 {
     if !is_object_of(&["op", "caller", "auths"], value) {
         return Ok(Err(Why::Shape));
     }
-    let Some(caller) = text_member(value, "caller") else {
-        return Ok(Err(Why::Shape));
-    };
-    match texts_member(value, "auths") {
-        Some(names) => grant_as(alloc, caller, names.as_slice()),
-        None => Ok(Err(Why::Shape)),
-    }
+    grant_in(alloc, value)
 }
 
-fn ingest_as(records: Option<Records>) -> Result<Request, Why>
+/// The request to take records in, where they are not too many.
+pub fn ingest_as(records: Option<Records>) -> Result<Request, Why>
     ensures { result ≡ ingest_with records }
 {
     match records {
@@ -96,14 +109,21 @@ fn ingest_as(records: Option<Records>) -> Result<Request, Why>
     }
 }
 
+/// The request to take the records of a value in, whatever other members it has.
+pub fn records_in(alloc: Global, value: &Value) -> Result<Result<Request, Why>, OutOfMemory>
+    ensures { IfOk result (λ r. r ≡ records_inside (view value.now)) }
+{
+    match list_member(value, "records") {
+        Some(items) => Ok(ingest_as(read_batch(alloc, items.as_slice())?)),
+        None => Ok(Err(Why::Shape)),
+    }
+}
+
 fn ingest(alloc: Global, value: &Value) -> Result<Result<Request, Why>, OutOfMemory>
     ensures { IfOk result (λ r. r ≡ ingest_of (view value.now)) }
 {
     if is_object_of(&["op", "records"], value) {
-        return match list_member(value, "records") {
-            Some(items) => Ok(ingest_as(read_batch(alloc, items.as_slice())?)),
-            None => Ok(Err(Why::Shape)),
-        };
+        return records_in(alloc, value);
     }
     if !is_object_of(&["op", "csv"], value) {
         return Ok(Err(Why::Shape));
@@ -114,9 +134,10 @@ fn ingest(alloc: Global, value: &Value) -> Result<Result<Request, Why>, OutOfMem
     }
 }
 
-fn page_as(
+/// A page of a query of a caller.
+pub fn page_as(
     alloc: Global,
-    caller: &str,
+    caller: &[u8],
     number: Option<u64>,
     page: Option<u64>,
 ) -> Result<Result<Request, Why>, OutOfMemory>
@@ -151,14 +172,15 @@ fn page(alloc: Global, value: &Value) -> Result<Result<Request, Why>, OutOfMemor
         return Ok(Err(Why::Shape));
     };
     match whole_member(value, "page") {
-        Some(page) => page_as(alloc, caller, number, page),
+        Some(page) => page_as(alloc, caller.as_bytes(), number, page),
         None => Ok(Err(Why::Shape)),
     }
 }
 
-fn close_as(
+/// The close of a query of a caller.
+pub fn close_as(
     alloc: Global,
-    caller: &str,
+    caller: &[u8],
     number: Option<u64>,
 ) -> Result<Result<Request, Why>, OutOfMemory>
     ensures { IfOk result (λ r. r ≡ close_with caller.now number) }
@@ -182,7 +204,7 @@ fn close(alloc: Global, value: &Value) -> Result<Result<Request, Why>, OutOfMemo
         return Ok(Err(Why::Shape));
     };
     match whole_member(value, "number") {
-        Some(number) => close_as(alloc, caller, number),
+        Some(number) => close_as(alloc, caller.as_bytes(), number),
         None => Ok(Err(Why::Shape)),
     }
 }

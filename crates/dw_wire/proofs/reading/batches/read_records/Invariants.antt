@@ -1,7 +1,0 @@
-use Rattle.std.proofs.Common.{◌≡◌, ◌++◌, drop}
-use Rattle.serde_json.specs.View.{items_view}
-use Rattle.dw_wire.specs.ReadLine.{records_of}
-use Rattle.dw_wire.proofs.reading.batches.read_records.Given as goal
-
-abbrev pub invariant-loop-value : goal.invariant-loop-value
-invariant-loop-value l = records_of (items_view l.items) ≡ l.records ++ records_of (items_view (drop l.value-index l.items))

@@ -1,5 +1,0 @@
-use Rattle.std.proofs.lemmas.Result.{IfOk-weaker}
-use Rattle.dw_wire.proofs.reading.tables.read_row.Goals as goal
-
-pub returns : goal.returns
-returns c = IfOk-weaker c.of_batch.result _ _ (λ _ h. h _ c.from_csv.ensures.is) c.of_batch.ensures
