@@ -1,0 +1,9 @@
+pub mod AnswerLemmas
+pub mod CutLemmas
+pub mod JoinedLemmas
+pub mod OpenLemmas
+pub mod PlacedLemmas
+pub mod RemainsLemmas
+pub mod ScanLemmas
+pub mod SizeLemmas
+pub mod WaveLemmas

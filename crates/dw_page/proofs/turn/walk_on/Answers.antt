@@ -1,0 +1,20 @@
+use Rattle.std.proofs.Common.{◌≡◌, ◌≤◌, length, ◌∙◌, ap, arith}
+use Rattle.dw_page.specs.declared.gather.Gather.{Gather}
+use Rattle.dw_page.proofs.AnswerLemmas.{told_still}
+use Rattle.dw_page.proofs.RemainsLemmas.{still_few}
+use Rattle.dw_page.proofs.turn.walk_on.Goals as goal
+
+pub waves-preserved : goal.waves-preserved
+waves-preserved g c =
+    let inv = c.waves.invariant in
+    let opened = c.in_ok-open.ensures in
+    let scanned = c.in_ok-scan_slots.ensures in
+    let flushed = c.in_ok-flush.ensures in
+    record {
+      good = λ w page is h. flushed.good c.args.ask.now w page (scanned.good w page (opened.good c.args.ask.now w page (told_still _ _ c.args.ask.now w inv.told is) (inv.good w page is h)));
+      few = still_few _ _ _ _ c.workers-workers.result inv.few opened.few scanned.few flushed.fewer;
+      more = c.if-walk.false;
+      size = flushed.size ∙ ap (λ (x : Gather). x.size) (scanned.gather ∙ opened.gather) ∙ inv.size;
+      told = opened.told ∙ inv.told;
+      later = omega (arith, opened.later, inv.later);
+    }

@@ -1,0 +1,7 @@
+pub mod Asked
+pub mod Good
+pub mod Joined
+pub mod Placed
+pub mod Remains
+pub mod Sizes
+pub mod Waves
