@@ -37,98 +37,98 @@ indexed_by dict field rule h i =
     kept false false g k = cc
 
 module _ {L X : Type 0} (shard : List ℕ) (dict : Dictionary) (fact : L → LeafPart → Type 0) (stands : L → X → Type 0) (make : List ℕ → (List ℕ → Bool) → X)
-    (at_leaf : (x : L) (part : LeafPart) → (rule_of dict part.field).indexed ≡ true → fact x part → stands x (make part.field part.test))
+  (at_leaf : (x : L) (part : LeafPart) → (rule_of dict part.field).indexed ≡ true → fact x part → stands x (make part.field part.test))
   where
-    abbrev IsAlike : NQuery → Type 0
-    IsAlike q = (s : Shape L) → is_ruled dict q ≡ true → Alike fact s (parts_of shard q) → Alike stands s (tree_of make q)
+  abbrev IsAlike : NQuery → Type 0
+  IsAlike q = (s : Shape L) → is_ruled dict q ≡ true → Alike fact s (parts_of shard q) → Alike stands s (tree_of make q)
 
-    abbrev Child : Type 0
-    Child = (q : NQuery) × IsAlike q
+  abbrev Child : Type 0
+  Child = (q : NQuery) × IsAlike q
 
-    abbrev those : List Child → List NQuery
-    those es = map (λ e. e.0) es
+  abbrev those : List Child → List NQuery
+  those es = map (λ e. e.0) es
 
-    ruled_is : (y : NQuery-F NQuery) → is_ruled dict (roll-NQuery y) ≡ ruled_step dict (map-NQuery NQuery Bool (is_ruled dict) y)
-    ruled_is y = fold-roll-NQuery Bool (ruled_step dict) y
+  ruled_is : (y : NQuery-F NQuery) → is_ruled dict (roll-NQuery y) ≡ ruled_step dict (map-NQuery NQuery Bool (is_ruled dict) y)
+  ruled_is y = fold-roll-NQuery Bool (ruled_step dict) y
 
-    of_leaf : (s : Shape L) (rule : FieldRule) (part : LeafPart) → is_ruled_as dict part.field rule ≡ true → (b : Bool) → rule.indexed ≡ b → Alike fact s (cond b (leaf part) unknown) → Alike stands s (cond b (leaf (make part.field part.test)) unknown)
-    of_leaf (leaf x) rule part h true i a = at_leaf x part (indexed_by dict part.field rule h i) a
-    of_leaf (leaf x) rule part h false i a = a
-    of_leaf unknown rule part h true i a = a
-    of_leaf unknown rule part h false i a = a
-    of_leaf (opposite s) rule part h true i a = a
-    of_leaf (opposite s) rule part h false i a = a
-    of_leaf (and m s) rule part h true i a = a
-    of_leaf (and m s) rule part h false i a = a
-    of_leaf (or m s) rule part h true i a = a
-    of_leaf (or m s) rule part h false i a = a
+  of_leaf : (s : Shape L) (rule : FieldRule) (part : LeafPart) → is_ruled_as dict part.field rule ≡ true → (b : Bool) → rule.indexed ≡ b → Alike fact s (cond b (leaf part) unknown) → Alike stands s (cond b (leaf (make part.field part.test)) unknown)
+  of_leaf (leaf x) rule part h true i a = at_leaf x part (indexed_by dict part.field rule h i) a
+  of_leaf (leaf x) rule part h false i a = a
+  of_leaf unknown rule part h true i a = a
+  of_leaf unknown rule part h false i a = a
+  of_leaf (opposite s) rule part h true i a = a
+  of_leaf (opposite s) rule part h false i a = a
+  of_leaf (and m s) rule part h true i a = a
+  of_leaf (and m s) rule part h false i a = a
+  of_leaf (or m s) rule part h true i a = a
+  of_leaf (or m s) rule part h false i a = a
 
-    at_rule : (y : NQuery-F NQuery) (rule : FieldRule) (part : LeafPart) → part_step shard (map-NQuery NQuery (Shape LeafPart) (parts_of shard) y) ≡ part_where rule part
-        → tree_step make (map-NQuery NQuery (Shape X) (tree_of make) y) ≡ leaf_of make rule part.field part.test → ruled_step dict (map-NQuery NQuery Bool (is_ruled dict) y) ≡ is_ruled_as dict part.field rule → IsAlike (roll-NQuery y)
-    at_rule y rule part p t r s h a =
-        subst (λ z. Alike stands s z) (sym (tree_is make y ∙ t))
-        (of_leaf s rule part (sym (ruled_is y ∙ r) ∙ h) rule.indexed refl (subst (λ z. Alike fact s z) (parts_is shard y ∙ p) a))
+  at_rule : (y : NQuery-F NQuery) (rule : FieldRule) (part : LeafPart) → part_step shard (map-NQuery NQuery (Shape LeafPart) (parts_of shard) y) ≡ part_where rule part
+      → tree_step make (map-NQuery NQuery (Shape X) (tree_of make) y) ≡ leaf_of make rule part.field part.test → ruled_step dict (map-NQuery NQuery Bool (is_ruled dict) y) ≡ is_ruled_as dict part.field rule → IsAlike (roll-NQuery y)
+  at_rule y rule part p t r s h a =
+      subst (λ z. Alike stands s z) (sym (tree_is make y ∙ t))
+      (of_leaf s rule part (sym (ruled_is y ∙ r) ∙ h) rule.indexed refl (subst (λ z. Alike fact s z) (parts_is shard y ∙ p) a))
 
-    record AllSame (m : ℕ) (s : ℕ → Shape L) (qs : List NQuery) : Type 0 where
-      count : m ≡ length (map (tree_of make) qs)
-      each : (i : ℕ) → i < m → Alike stands (s i) (slice_index_or (map (tree_of make) qs) i unknown)
+  record AllSame (m : ℕ) (s : ℕ → Shape L) (qs : List NQuery) : Type 0 where
+    count : m ≡ length (map (tree_of make) qs)
+    each : (i : ℕ) → i < m → Alike stands (s i) (slice_index_or (map (tree_of make) qs) i unknown)
 
-    all_same : (m : ℕ) (s : ℕ → Shape L) (es : List Child) → list_all (λ b. b) (map (is_ruled dict) (those es)) ≡ true → m ≡ length (map (parts_of shard) (those es))
-        → ((i : ℕ) → i < m → Alike fact (s i) (slice_index_or (map (parts_of shard) (those es)) i unknown)) → AllSame m s (those es)
-    all_same m s [] h c a = record { count = c; each = λ i lt. absurd (omega (arith, lt, c)) }
-    all_same zero s (e ∷ es) h c a = absurd (omega (arith, c))
-    all_same (suc m) s (e ∷ es) h c a =
-        let p = and_parts (is_ruled dict e.0) (list_all (λ b. b) (map (is_ruled dict) (those es))) h in
-        let rest = all_same m (λ i. s (suc i)) es p.1 (omega (arith, c)) (λ i lt. a (suc i) (omega (arith, lt))) in
-        record { count = ap suc rest.count; each = at rest (e.1 (s 0) p.0 (a 0 (omega arith))) }
-      where
-        at : AllSame m (λ i. s (suc i)) (those es) → Alike stands (s 0) (tree_of make e.0) → (i : ℕ) → i < suc m → Alike stands (s i) (slice_index_or (map (tree_of make) (those (e ∷ es))) i unknown)
-        at rest first zero lt = first
-        at rest first (suc i) lt = rest.each i (omega (arith, lt))
+  all_same : (m : ℕ) (s : ℕ → Shape L) (es : List Child) → list_all (λ b. b) (map (is_ruled dict) (those es)) ≡ true → m ≡ length (map (parts_of shard) (those es))
+      → ((i : ℕ) → i < m → Alike fact (s i) (slice_index_or (map (parts_of shard) (those es)) i unknown)) → AllSame m s (those es)
+  all_same m s [] h c a = record { count = c; each = λ i lt. absurd (omega (arith, lt, c)) }
+  all_same zero s (e ∷ es) h c a = absurd (omega (arith, c))
+  all_same (suc m) s (e ∷ es) h c a =
+      let p = and_parts (is_ruled dict e.0) (list_all (λ b. b) (map (is_ruled dict) (those es))) h in
+      let rest = all_same m (λ i. s (suc i)) es p.1 (omega (arith, c)) (λ i lt. a (suc i) (omega (arith, lt))) in
+      record { count = ap suc rest.count; each = at rest (e.1 (s 0) p.0 (a 0 (omega arith))) }
+    where
+      at : AllSame m (λ i. s (suc i)) (those es) → Alike stands (s 0) (tree_of make e.0) → (i : ℕ) → i < suc m → Alike stands (s i) (slice_index_or (map (tree_of make) (those (e ∷ es))) i unknown)
+      at rest first zero lt = first
+      at rest first (suc i) lt = rest.each i (omega (arith, lt))
 
-    of_and : (es : List Child) (s : Shape L) → list_all (λ b. b) (map (is_ruled dict) (those es)) ≡ true
-        → Alike fact s (and (length (map (parts_of shard) (those es))) (λ i. slice_index_or (map (parts_of shard) (those es)) i unknown)) → Alike stands s (and (length (map (tree_of make) (those es))) (λ i. slice_index_or (map (tree_of make) (those es)) i unknown))
-    of_and es (leaf x) h a = a
-    of_and es unknown h a = a
-    of_and es (opposite s) h a = a
-    of_and es (and m s) h a = let r = all_same m s es h a.0 a.1 in (r.count, r.each)
-    of_and es (or m s) h a = a
+  of_and : (es : List Child) (s : Shape L) → list_all (λ b. b) (map (is_ruled dict) (those es)) ≡ true
+      → Alike fact s (and (length (map (parts_of shard) (those es))) (λ i. slice_index_or (map (parts_of shard) (those es)) i unknown)) → Alike stands s (and (length (map (tree_of make) (those es))) (λ i. slice_index_or (map (tree_of make) (those es)) i unknown))
+  of_and es (leaf x) h a = a
+  of_and es unknown h a = a
+  of_and es (opposite s) h a = a
+  of_and es (and m s) h a = let r = all_same m s es h a.0 a.1 in (r.count, r.each)
+  of_and es (or m s) h a = a
 
-    of_or : (es : List Child) (s : Shape L) → list_all (λ b. b) (map (is_ruled dict) (those es)) ≡ true
-        → Alike fact s (or (length (map (parts_of shard) (those es))) (λ i. slice_index_or (map (parts_of shard) (those es)) i unknown)) → Alike stands s (or (length (map (tree_of make) (those es))) (λ i. slice_index_or (map (tree_of make) (those es)) i unknown))
-    of_or es (leaf x) h a = a
-    of_or es unknown h a = a
-    of_or es (opposite s) h a = a
-    of_or es (and m s) h a = a
-    of_or es (or m s) h a = let r = all_same m s es h a.0 a.1 in (r.count, r.each)
+  of_or : (es : List Child) (s : Shape L) → list_all (λ b. b) (map (is_ruled dict) (those es)) ≡ true
+      → Alike fact s (or (length (map (parts_of shard) (those es))) (λ i. slice_index_or (map (parts_of shard) (those es)) i unknown)) → Alike stands s (or (length (map (tree_of make) (those es))) (λ i. slice_index_or (map (tree_of make) (those es)) i unknown))
+  of_or es (leaf x) h a = a
+  of_or es unknown h a = a
+  of_or es (opposite s) h a = a
+  of_or es (and m s) h a = a
+  of_or es (or m s) h a = let r = all_same m s es h a.0 a.1 in (r.count, r.each)
 
-    of_not : (e : Child) (s : Shape L) → is_ruled dict e.0 ≡ true → Alike fact s (opposite (parts_of shard e.0)) → Alike stands s (opposite (tree_of make e.0))
-    of_not e (leaf x) h a = a
-    of_not e unknown h a = a
-    of_not e (opposite s) h a = e.1 s h a
-    of_not e (and m s) h a = a
-    of_not e (or m s) h a = a
+  of_not : (e : Child) (s : Shape L) → is_ruled dict e.0 ≡ true → Alike fact s (opposite (parts_of shard e.0)) → Alike stands s (opposite (tree_of make e.0))
+  of_not e (leaf x) h a = a
+  of_not e unknown h a = a
+  of_not e (opposite s) h a = e.1 s h a
+  of_not e (and m s) h a = a
+  of_not e (or m s) h a = a
 
-    at_layer : (y : NQuery-F Child) → IsAlike (roll-NQuery (map-NQuery Child NQuery (λ e. e.0) y))
-    at_layer (layer.Equal f r v) = at_rule (layer.Equal f r v) r (record { field = f; test = λ form. is_same form v; places = _ }) refl refl refl
-    at_layer (layer.Below f r v e) = at_rule (layer.Below f r v e) r (record { field = f; test = λ form. is_below form v e; places = _ }) refl refl refl
-    at_layer (layer.Above f r v e) = at_rule (layer.Above f r v e) r (record { field = f; test = λ form. is_above form v e; places = _ }) refl refl refl
-    at_layer (layer.Between f r l e h g) = at_rule (layer.Between f r l e h g) r (record { field = f; test = λ form. is_above form l e && is_below form h g; places = _ }) refl refl refl
-    at_layer (layer.Starts f r t) = at_rule (layer.Starts f r t) r (record { field = f; test = λ form. starts_with nat_eq form t; places = _ }) refl refl refl
-    at_layer (layer.Ends f r t) = at_rule (layer.Ends f r t) r (record { field = f; test = λ form. ends_with nat_eq form t; places = _ }) refl refl refl
-    at_layer (layer.Holds f r t) = at_rule (layer.Holds f r t) r (record { field = f; test = λ form. holds form t; places = _ }) refl refl refl
-    at_layer (layer.Not e) = λ s h a.
-        subst (λ z. Alike stands s z) (sym (tree_is make (layer.Not e.0)))
-        (of_not e s (sym (ruled_is (layer.Not e.0)) ∙ h) (subst (λ z. Alike fact s z) (parts_is shard (layer.Not e.0)) a))
-    at_layer (layer.And es) = λ s h a.
-        subst (λ z. Alike stands s z) (sym (tree_is make (layer.And (those es))))
-        (of_and es s (sym (ruled_is (layer.And (those es))) ∙ h) (subst (λ z. Alike fact s z) (parts_is shard (layer.And (those es))) a))
-    at_layer (layer.Or es) = λ s h a.
-        subst (λ z. Alike stands s z) (sym (tree_is make (layer.Or (those es))))
-        (of_or es s (sym (ruled_is (layer.Or (those es))) ∙ h) (subst (λ z. Alike fact s z) (parts_is shard (layer.Or (those es))) a))
+  at_layer : (y : NQuery-F Child) → IsAlike (roll-NQuery (map-NQuery Child NQuery (λ e. e.0) y))
+  at_layer (layer.Equal f r v) = at_rule (layer.Equal f r v) r (record { field = f; test = λ form. is_same form v; places = _ }) refl refl refl
+  at_layer (layer.Below f r v e) = at_rule (layer.Below f r v e) r (record { field = f; test = λ form. is_below form v e; places = _ }) refl refl refl
+  at_layer (layer.Above f r v e) = at_rule (layer.Above f r v e) r (record { field = f; test = λ form. is_above form v e; places = _ }) refl refl refl
+  at_layer (layer.Between f r l e h g) = at_rule (layer.Between f r l e h g) r (record { field = f; test = λ form. is_above form l e && is_below form h g; places = _ }) refl refl refl
+  at_layer (layer.Starts f r t) = at_rule (layer.Starts f r t) r (record { field = f; test = λ form. starts_with nat_eq form t; places = _ }) refl refl refl
+  at_layer (layer.Ends f r t) = at_rule (layer.Ends f r t) r (record { field = f; test = λ form. ends_with nat_eq form t; places = _ }) refl refl refl
+  at_layer (layer.Holds f r t) = at_rule (layer.Holds f r t) r (record { field = f; test = λ form. holds form t; places = _ }) refl refl refl
+  at_layer (layer.Not e) = λ s h a.
+      subst (λ z. Alike stands s z) (sym (tree_is make (layer.Not e.0)))
+      (of_not e s (sym (ruled_is (layer.Not e.0)) ∙ h) (subst (λ z. Alike fact s z) (parts_is shard (layer.Not e.0)) a))
+  at_layer (layer.And es) = λ s h a.
+      subst (λ z. Alike stands s z) (sym (tree_is make (layer.And (those es))))
+      (of_and es s (sym (ruled_is (layer.And (those es))) ∙ h) (subst (λ z. Alike fact s z) (parts_is shard (layer.And (those es))) a))
+  at_layer (layer.Or es) = λ s h a.
+      subst (λ z. Alike stands s z) (sym (tree_is make (layer.Or (those es))))
+      (of_or es s (sym (ruled_is (layer.Or (those es))) ∙ h) (subst (λ z. Alike fact s z) (parts_is shard (layer.Or (those es))) a))
 
-    pub lists_alike : (q : NQuery) → IsAlike q
-    lists_alike = ind-NQuery IsAlike (λ x y is. subst (λ z. IsAlike (roll-NQuery z)) is (at_layer y))
+  pub lists_alike : (q : NQuery) → IsAlike q
+  lists_alike = ind-NQuery IsAlike (λ x y is. subst (λ z. IsAlike (roll-NQuery z)) is (at_layer y))
 
 -- the tree of an anchored query can be enumerated
 pub tree_enumerable : {L : Type 0} (shard : List ℕ) (dict : Dictionary) (fact : L → LeafPart → Type 0) (q : NQuery) (s : Shape L) → is_ruled dict q ≡ true → anchored q ≡ true → Alike fact s (parts_of shard q) → is_enumerable Positive s ≡ true

@@ -32,7 +32,7 @@ pub built_enumerable : (tablet : Held) (ask : Ask) (t : Tree Leaf) → is_ruled 
 built_enumerable tablet ask t ruled anchor built = tree_enumerable tablet.shard ask.dict (IsLeafOf tablet ask) ask.query (shape t) ruled anchor built
 
 module _ (tablet : Held) (ask : Ask) (w : World) (of : IsOfWorld tablet ask w) (t : Tree Leaf) (ruled : is_ruled ask.dict ask.query ≡ true) (anchor : anchored ask.query ≡ true) (built : IsTreeOf tablet ask t ask.query)
-    (find : TreesFindCandidates) (seen : LeavesFindTheSeen) (ascend : SeenAscend) (answers : AnswersAreSeen) where
+  (find : TreesFindCandidates) (seen : LeavesFindTheSeen) (ascend : SeenAscend) (answers : AnswersAreSeen) where
   abbrev shard : List ℕ
   shard = tablet.shard
 

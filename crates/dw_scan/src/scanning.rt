@@ -10,7 +10,8 @@ ghost use Rattle.dw_scan.specs.WorldAnswers.{candidates_in};
 use crate::ask::{Ask, Batch, Resume};
 use crate::building::tree_of;
 use crate::laws::{
-    answers_are_seen, leaves_find_the_seen, seen_ascend, trees_find_candidates, worlds_are_contents,
+    answers_are_seen, leaves_find_the_seen, seen_ascend, trees_find_candidates,
+    worlds_are_contents,
 };
 use crate::searching::search;
 use dw_base::{Bytes, Listed, OutOfMemory};
