@@ -1,14 +1,13 @@
-ghost use Rattle.std.specs.Prelude.{◌≡◌, ◌≤◌, true, IsTrue, IfOk};
-ghost use Rattle.dw_plan.specs.Anchored.{anchored as is_anchored};
+ghost use Rattle.std.specs.Prelude.{◌≡◌, ◌≤◌, true, IfOk};
 ghost use Rattle.dw_plan.specs.PlanLaws.{is_ruled};
 
 use crate::{Settings, Turned, turn_page};
 use dw_base::{Bytes, Listed, Text};
 use dw_derive::entries;
 use dw_dict::{Dict, FieldRule};
-use dw_eval::{NQuery, bind};
+use dw_eval::{BindError, NQuery, bind};
 use dw_event::{Cells, Days, Event, EventCell, Types};
-use dw_jexl::parse;
+use dw_jexl::{Query, parse};
 use dw_key::{DType, DocKey};
 use dw_norm::Kind;
 use dw_outside::{Keeper, MemKeeper, Put};
@@ -98,14 +97,20 @@ fn dictionary(alloc: Global) -> Result<Dict, Fail> {
     Ok(dict)
 }
 
-fn bound_query(alloc: Global, dict: &Dict, text: &str) -> Result<NQuery, Fail>
+fn bound(alloc: Global, query: &Query, dict: &Dict) -> Result<NQuery, BindError>
     ensures { IfOk result (λ q. is_ruled dict.now q ≡ true) }
 {
     bound_are_ruled();
+    bind(alloc, query, dict)
+}
+
+fn bound_query(alloc: Global, dict: &Dict, text: &str) -> Result<NQuery, Fail>
+    ensures { IfOk result (λ q. is_ruled dict.now q ≡ true) }
+{
     let Ok(query) = parse(alloc, text) else {
         return Err(Fail::from("no query"));
     };
-    match bind(alloc, &query, dict) {
+    match bound(alloc, &query, dict) {
         Ok(query) => Ok(query),
         Err(_) => Err(Fail::from("a literal")),
     }
