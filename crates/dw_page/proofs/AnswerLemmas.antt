@@ -28,7 +28,7 @@ use Rattle.dw_scan.specs.Worlds.{IsIndexedAlike}
 use Rattle.dw_scan.proofs.ShardOrder.{up_kept, seen_up}
 use Rattle.dw_page.specs.declared.slot.Slot.{Slot}
 use Rattle.dw_page.specs.declared.gather.Gather.{Gather}
-use Rattle.dw_page.specs.Asked.{query_of, IsAsked, IsTold}
+use Rattle.dw_page.specs.Asked.{query_of, hits_in, IsAsked, IsTold}
 use Rattle.dw_page.specs.Joined.{Joined}
 use Rattle.dw_page.specs.Placed.{SlotGood, SlotsGood}
 use Rattle.dw_page.specs.Remains.{left, at_start, remains, IsOver}
@@ -57,9 +57,6 @@ all_pass p (x ∷ xs) = at (p x) refl (all_pass p xs)
     at : (b : Bool) → p x ≡ b → AllByRecursion (λ y. p y ≡ true) (filter p xs) → AllByRecursion (λ y. p y ≡ true) (cond b (x ∷ filter p xs) (filter p xs))
     at true e r = (e, r)
     at false e r = r
-
-abbrev pub hits_in : Ask → Days → World → List (List ℕ)
-hits_in ask days w = hit_shards ask.query ask.auths days ask.types (tables w)
 
 module _ (kept : Option Tables) (ask : Ask) (days : Days) (size : ℕ) (w : World) where
   abbrev all : List Shown

@@ -3,6 +3,7 @@ pub mod CutLemmas
 pub mod JoinedLemmas
 pub mod OpenLemmas
 pub mod PlacedLemmas
+pub mod ReadsLemmas
 pub mod RemainsLemmas
 pub mod ScanLemmas
 pub mod SizeLemmas

@@ -7,6 +7,7 @@ use Rattle.dw_derive.specs.World.{World}
 use Rattle.dw_derive.specs.Tables.{tables}
 use Rattle.dw_derive.specs.Lawful.{HasEvents, IsWorld}
 use Rattle.dw_eval.specs.declared.open_query.OpenQuery.{OpenQuery}
+use Rattle.dw_plan.specs.Hit.{hit_shards}
 use Rattle.dw_plan.specs.PlanLaws.{StandsFor}
 use Rattle.dw_scan.specs.declared.ask.Ask.{Ask}
 use Rattle.dw_scan.specs.Worlds.{IsIndexedAlike}
@@ -14,6 +15,10 @@ use Rattle.dw_scan.specs.Worlds.{IsIndexedAlike}
 -- the open query of an ask, the days and the size of a page
 abbrev pub query_of : Ask → Days → ℕ → OpenQuery
 query_of ask days size = record { query = ask.query; dict = ask.dict; auths = ask.auths; snapshot = ask.snapshot; days = days; types = ask.types; size = size }
+
+-- the shards that the open query hits in a world
+abbrev pub hits_in : Ask → Days → World → List (List ℕ)
+hits_in ask days w = hit_shards ask.query ask.auths days ask.types (tables w)
 
 -- the tables that are told are those of a lawful world, for which the open query stands
 pub record IsAsked (kept : Option Tables) (ask : Ask) (days : Days) (size : ℕ) (w : World) : Type 0 where

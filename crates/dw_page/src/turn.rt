@@ -7,7 +7,8 @@ ghost use Rattle.dw_eval.specs.Answer.{answer_of};
 ghost use Rattle.dw_plan.specs.Anchored.{anchored};
 ghost use Rattle.dw_plan.specs.PlanLaws.{is_ruled};
 ghost use Rattle.dw_page.specs.Good.{Good};
-ghost use Rattle.dw_page.specs.Asked.{query_of, IsTold, IsAsked};
+ghost use Rattle.dw_page.specs.Asked.{query_of, hits_in, IsTold, IsAsked};
+ghost use Rattle.dw_page.specs.Reads.{Opens, ReadsPage};
 ghost use Rattle.dw_page.specs.Remains.{IsOver};
 
 use crate::hand::hand_out;
@@ -49,6 +50,7 @@ fn scan_slots<R: Threads + Sync>(
     ensures good { OnOk result ((w : World) (page : List Shown) → Good ask.now w page walk.old → Good ask.now w page walk.new) }
     ensures few { OnOk result (length walk.new.slots.items ≡ length walk.old.slots.items) }
     ensures gather { walk.new.gather ≡ walk.old.gather }
+    ensures waiting { walk.new.waiting.items ≡ walk.old.waiting.items }
 {
     let want = walk.gather.want();
     let outs = run_batches(rt, alloc, walk.slots.as_slice(), ask, workers, budget, want)?;
@@ -58,6 +60,7 @@ fn scan_slots<R: Threads + Sync>(
 }
 
 /// Walks on, wave by wave, until more than the page has come or nothing remains.
+#[tactic(auto, using(crate::proofs::ReadsLemmas::opens_none))]
 fn walk_on<R: Threads + Sync, K: Keeper>(
     rt: &R,
     alloc: Global,
@@ -71,6 +74,7 @@ fn walk_on<R: Threads + Sync, K: Keeper>(
     requires none { length walk.old.slots.items ≡ 0 }
     requires more { walk.old.gather.more ≡ false }
     ensures good { OnOk result ((w : World) (page : List Shown) → IsTold (K.told keeper.old) ask.now w → Good ask.now w page walk.old → Good ask.now w page walk.new) }
+    ensures opens { OnOk result (Opens (K.reads keeper.old) (K.reads keeper.new) walk.old.waiting.items walk.new.waiting.items) }
     ensures end { OnOk result ((walk.new.gather.more ≡ true) ⊎ IsOver walk.new.slots.items walk.new.waiting.items) }
     ensures size { OnOk result (walk.new.gather.size ≡ walk.old.gather.size) }
     ensures told { K.told keeper.new ≡ K.told keeper.old }
@@ -110,6 +114,7 @@ pub fn turn_page<R: Threads + Sync, K: Keeper>(
     requires counted { 1 ≤ page }
     ensures shown { IfOk result (λ turned. (w : World) → IsAsked (K.told keeper.old) ask.now days.now size w → turned.shown ≡ take size (drop ((page - 1) * size) (answer_of (query_of ask.now days.now size) w.events))) }
     ensures more { IfOk result (λ turned. (w : World) → IsAsked (K.told keeper.old) ask.now days.now size w → (IsTrue turned.more ↔ size < length (drop ((page - 1) * size) (answer_of (query_of ask.now days.now size) w.events)))) }
+    ensures reads { OnOk result ((w : World) → IsAsked (K.told keeper.old) ask.now days.now size w → ReadsPage (K.reads keeper.old) (K.reads keeper.new) (hits_in ask.now days.now w)) }
     ensures told { K.told keeper.new ≡ K.told keeper.old }
     ensures later { K.faults keeper.old ≤ K.faults keeper.new }
     ensures failed { result ≡ Err KeeperError.Failed → Rose (K.faults keeper.old) (K.faults keeper.new) }

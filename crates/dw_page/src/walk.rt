@@ -1,14 +1,16 @@
-ghost use Rattle.std.specs.Prelude.{◌≡◌, ◌⊎◌, ◌≤◌, ◌++◌, ◌∷◌, [], List, OnOk, OnErr, IfOk, IsTrue, Err, false, drop, length, vec_len};
+ghost use Rattle.std.specs.Prelude.{◌≡◌, ◌⊎◌, ◌≤◌, ◌++◌, ◌∷◌, [], List, OnOk, OnErr, IfOk, IsTrue, Err, false, drop, length, map, vec_len};
 ghost use Rattle.dw_outside.specs.Faults.{Rose};
 ghost use Rattle.dw_outside.specs.declared.keeper_error.KeeperError.{KeeperError};
 ghost use Rattle.dw_event.specs.declared.reports.Shown.{Shown};
 ghost use Rattle.dw_derive.specs.World.{World};
 ghost use Rattle.dw_eval.specs.Answer.{answer_of};
 ghost use Rattle.dw_plan.specs.Anchored.{anchored};
+ghost use Rattle.dw_plan.specs.Reads.{Adds, is_of_index};
 ghost use Rattle.dw_scan.specs.declared.ask.Ask.{Ask};
 ghost use Rattle.dw_page.specs.Good.{Good};
-ghost use Rattle.dw_page.specs.Asked.{query_of, IsTold, IsAsked};
-ghost use Rattle.dw_page.specs.Remains.{IsFlushed};
+ghost use Rattle.dw_page.specs.Asked.{query_of, hits_in, IsTold, IsAsked};
+ghost use Rattle.dw_page.specs.Reads.{Opens};
+ghost use Rattle.dw_page.specs.Remains.{at_start, IsFlushed};
 
 use crate::gather::Gather;
 use crate::line::line_up;
@@ -53,6 +55,8 @@ impl Walk {
         ensures none { IfOk result (λ walk. length walk.slots.items ≡ 0) }
         ensures more { IfOk result (λ walk. walk.gather.more ≡ false) }
         ensures size { IfOk result (λ walk. walk.gather.size ≡ size) }
+        ensures waits { IfOk result (λ walk. (w : World) → IsAsked (K.told keeper.old) ask.now days.now size w → walk.waiting.items ≡ map at_start (hits_in ask.now days.now w)) }
+        ensures reads { Adds is_of_index (K.reads keeper.old) (K.reads keeper.new) }
         ensures told { K.told keeper.new ≡ K.told keeper.old }
         ensures later { K.faults keeper.old ≤ K.faults keeper.new }
         ensures failed { result ≡ Err KeeperError.Failed → Rose (K.faults keeper.old) (K.faults keeper.new) }
@@ -72,6 +76,7 @@ impl Walk {
     }
 
     /// Opens the next shards, so that as many as there are workers are open. Each is read whole.
+    #[tactic(auto, using(crate::proofs::ReadsLemmas::opens_none))]
     pub fn open<K: Keeper>(
         &mut self,
         alloc: Global,
@@ -80,6 +85,7 @@ impl Walk {
     ) -> Result<(), KeeperError>
         ensures good { OnOk result ((ask : Ask) (w : World) (page : List Shown) → IsTold (K.told keeper.old) ask w → Good ask w page self.old → Good ask w page self.new) }
         ensures few { length self.old.slots.items ≤ workers → length self.new.slots.items ≤ workers }
+        ensures opens { OnOk result (Opens (K.reads keeper.old) (K.reads keeper.new) self.old.waiting.items self.new.waiting.items) }
         ensures all { OnOk result ((workers ≤ vec_len self.new.slots) ⊎ (self.new.waiting.items ≡ [])) }
         ensures gather { self.new.gather ≡ self.old.gather }
         ensures told { K.told keeper.new ≡ K.told keeper.old }
@@ -107,7 +113,7 @@ impl Walk {
         ensures good { OnOk result ((ask : Ask) (w : World) (page : List Shown) → Good ask w page self.old → Good ask w page self.new) }
         ensures fewer { length self.new.slots.items ≤ length self.old.slots.items }
         ensures flushed { OnOk result (IsFlushed self.new.slots.items) }
-        ensures waiting { self.new.waiting ≡ self.old.waiting }
+        ensures waiting { self.new.waiting.items ≡ self.old.waiting.items }
         ensures size { self.new.gather.size ≡ self.old.gather.size }
     {
         'giving: while !self.slots.is_empty() {

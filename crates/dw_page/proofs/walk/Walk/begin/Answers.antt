@@ -19,3 +19,6 @@ returns-clause-good g c = λ w is.
       joined = joined_begin ask w page _ waiting _ c.new.ensures.items all c.new-2.ensures refl;
       slots = good_begin ask w _ c.new.ensures.items;
     }
+
+pub returns-clause-waits : goal.returns-clause-waits
+returns-clause-waits g c = λ w is. c.in_ok-waiting.ensures ∙ ap (map at_start) (c.in_ok-hits.ensures.hits (tables w) is.told)

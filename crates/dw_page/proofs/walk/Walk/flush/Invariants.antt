@@ -9,7 +9,7 @@ abbrev pub invariant-giving : goal.invariant-giving
 invariant-giving l = record {
   good : (ask : Ask) (w : World) (page : List Shown) → Good ask w page l.fn.self → Good ask w page l.self;
   fewer : length l.self.slots.items ≤ length l.fn.self.slots.items;
-  waiting : l.self.waiting ≡ l.fn.self.waiting;
+  waiting : l.self.waiting.items ≡ l.fn.self.waiting.items;
   size : l.self.gather.size ≡ l.fn.self.gather.size;
 }
 

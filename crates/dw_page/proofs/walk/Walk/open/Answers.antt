@@ -1,6 +1,7 @@
 use Rattle.std.proofs.Common.{refl, ◌∙◌, arith}
 use Rattle.std.proofs.lemmas.Grind.{common_steps}
 use Rattle.dw_page.proofs.OpenLemmas.{tablet_of_world}
+use Rattle.dw_page.proofs.ReadsLemmas.{opens_one}
 use Rattle.dw_page.proofs.RemainsLemmas.{remains_opened, good_opened, joined_same}
 use Rattle.dw_page.proofs.walk.Walk.open.Goals as goal
 
@@ -22,6 +23,7 @@ opening-preserved g c =
             slots = rw pushed (good_opened ask w slots _ tablet refl of_world before.slots);
           };
       few = grind (arith, common_steps);
+      opens = opens_one _ _ _ _ waiting rest _ inv.opens c.in-Some.ensures.items read.read;
       gather = inv.gather;
       told = read.told ∙ inv.told;
       later = omega (arith, inv.later, read.later);
