@@ -1,6 +1,6 @@
 -- The tablet of a shard that was read whole agrees with the tables.
 use Rattle.std.proofs.Common.{◌≡◌, ℕ, List, [], ◌∷◌, refl, ap, sym, subst, ◌∙◌}
-use Rattle.std.specs.Prelude.{map, Option, Some}
+use Rattle.std.specs.Prelude.{map, Option}
 use Rattle.dw_outside.specs.Tables.{Tables, cell_pair, span_of}
 use Rattle.dw_outside.specs.declared.cell.Cell.{Cell}
 use Rattle.dw_derive.specs.World.{World}

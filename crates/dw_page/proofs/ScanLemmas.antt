@@ -1,7 +1,6 @@
 -- What the search of a shard promises, for the slot of the shard.
-use Rattle.std.proofs.Common.{◌≡◌, ◌++◌, ℕ, List, [], true, refl, ap, sym, subst, ◌∙◌}
+use Rattle.std.proofs.Common.{◌≡◌, ℕ, [], ap, sym, ◌∙◌}
 use Rattle.std.specs.Prelude.{Result, Ok, Err, IfOk}
-use Rattle.dw_event.specs.declared.reports.Shown.{Shown}
 use Rattle.dw_derive.specs.World.{World}
 use Rattle.dw_tablet.specs.Held.{Held}
 use Rattle.dw_scan.specs.declared.ask.Ask.{Ask}

@@ -1,4 +1,4 @@
-use Rattle.std.proofs.Common.{◌≡◌, ◌≤◌, length, ◌∙◌, ap, arith}
+use Rattle.std.proofs.Common.{◌∙◌, ap, arith}
 use Rattle.dw_page.specs.declared.gather.Gather.{Gather}
 use Rattle.dw_page.proofs.AnswerLemmas.{told_still}
 use Rattle.dw_page.proofs.ReadsLemmas.{opens_more, opens_still}

@@ -1,5 +1,4 @@
-use Rattle.std.proofs.Common.{◌≡◌, map, refl, ap, ◌∙◌}
-use Rattle.dw_plan.specs.Hit.{hit_shards}
+use Rattle.std.proofs.Common.{map, refl, ap, ◌∙◌}
 use Rattle.dw_plan.proofs.Answering.{answers_are_hit}
 use Rattle.dw_derive.specs.Tables.{tables}
 use Rattle.dw_eval.specs.Answer.{answer_of}
