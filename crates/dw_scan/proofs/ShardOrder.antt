@@ -16,17 +16,19 @@ use Rattle.dw_event.specs.Places.{place_cmp}
 use Rattle.dw_event.specs.Seen.{shown_of, is_seen, seen}
 use Rattle.dw_event.specs.Take.{Event}
 use Rattle.dw_event.specs.Texts.{is_same}
+use Rattle.dw_derive.specs.World.{World}
+use Rattle.dw_derive.specs.Lawful.{HasEvents}
 use Rattle.dw_nest.specs.Bounds.{Ascends, is_before}
 use Rattle.dw_plan.proofs.Named.{same_is}
 use Rattle.dw_scan.specs.Candidates.{keys_of}
 use Rattle.dw_scan.specs.Worlds.{SeenAscend, shard_seen}
 
 -- the place of an event as it is shown
-abbrev place : Shown → Place
+abbrev pub place : Shown → Place
 place s = record { shard = s.shard; key = s.key }
 
 -- places ascend
-abbrev AreUp : List Shown → Type 0
+abbrev pub AreUp : List Shown → Type 0
 AreUp [] = Unit {0}
 AreUp (s ∷ ss) = AllByRecursion (λ r. place_cmp (place s) (place r) ≡ Less) ss × AreUp ss
 
@@ -38,7 +40,7 @@ all_kept P p (s ∷ ss) h = at (p s) (all_kept P p ss h.1)
     at true k = (h.0, k)
     at false k = k
 
-up_kept : (p : Shown → Bool) (ss : List Shown) → AreUp ss → AreUp (filter p ss)
+pub up_kept : (p : Shown → Bool) (ss : List Shown) → AreUp ss → AreUp (filter p ss)
 up_kept p [] h = tt
 up_kept p (s ∷ ss) h = at (p s) (up_kept p ss h.1)
   where
@@ -91,7 +93,10 @@ module _ (shard : List ℕ) where
   keys_ascend [] up h = tt
   keys_ascend (s ∷ ss) up h = (before_keys s ss h.0 h.1 up.0, keys_ascend ss up.1 h.1)
 
+-- all events are seen in the order of their places
+pub seen_up : (w : World) (names : List (List ℕ)) (snapshot : ℕ) → HasEvents w → AreUp (seen names w.events snapshot)
+seen_up w names snapshot h = up_kept (λ s. is_seen s.view) (shown names snapshot w.events) (up_shown names snapshot w.events h.ascend)
+
 pub seen_ascend : SeenAscend
 seen_ascend w shard names snapshot h =
-    let all = up_kept (λ s. is_seen s.view) (shown names snapshot w.events) (up_shown names snapshot w.events h.ascend) in
-    keys_ascend shard (shard_seen w shard names snapshot) (up_kept (λ s. is_same s.shard shard) (seen names w.events snapshot) all) (here_kept shard (seen names w.events snapshot))
+    keys_ascend shard (shard_seen w shard names snapshot) (up_kept (λ s. is_same s.shard shard) (seen names w.events snapshot) (seen_up w names snapshot h)) (here_kept shard (seen names w.events snapshot))

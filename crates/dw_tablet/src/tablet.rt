@@ -106,6 +106,13 @@ impl Tablet {
         &self.shard
     }
 
+    /// The first place of its shard.
+    pub fn start(&self) -> &[u8]
+        ensures { result.now ≡ shard_start self.now.shard }
+    {
+        self.start.as_slice()
+    }
+
     /// The first place past its shard.
     pub fn end(&self) -> &[u8]
         ensures { result.now ≡ shard_end self.now.shard }

@@ -1,0 +1,10 @@
+pub mod AnswerLemmas
+pub mod CutLemmas
+pub mod JoinedLemmas
+pub mod OpenLemmas
+pub mod PlacedLemmas
+pub mod ReadsLemmas
+pub mod RemainsLemmas
+pub mod ScanLemmas
+pub mod SizeLemmas
+pub mod WaveLemmas

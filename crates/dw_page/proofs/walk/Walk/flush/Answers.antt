@@ -1,0 +1,47 @@
+use Rattle.std.proofs.Common.{◌≡◌, ◌<◌, ◌++◌, length, set, drop, arith, ap, sym, ◌∙◌}
+use Rattle.std.specs.Prelude.{None}
+use Rattle.std.proofs.lemmas.Grind.{common_steps}
+use Rattle.std.proofs.lemmas.List.Elements.{All-drop}
+use Rattle.dw_page.specs.Placed.{SlotGood}
+use Rattle.dw_page.specs.Remains.{remains}
+use Rattle.dw_page.proofs.RemainsLemmas.{remains_given, remains_kept, agree_given, none_held, joined_same}
+use Rattle.dw_page.proofs.walk.Walk.flush.Goals as goal
+
+pub returns-then-is_some-clause-good : goal.returns-then-is_some-clause-good
+returns-then-is_some-clause-good c =
+    let slots = c.giving.self.slots.items in
+    let waiting = c.giving.self.waiting.items in
+    let given = c.give-found.new.self in
+    let first = c.index_mut.result.now in
+    let some : 0 < length slots = grind (arith, common_steps) in
+    λ ask w page g.
+    let before = c.giving.invariant.good ask w page g in
+    record {
+      joined = c.in_ok-take_all.ensures.joined page _
+          (joined_same page _ _ _ (remains_kept ask w slots waiting given first some c.index_mut.ensures.value c.give-found.ensures.found c.give-found.ensures.resume c.give-found.ensures.tablet ∙ ap (λ xs. xs ++ remains ask w (set slots 0 given) waiting) (sym c.give-found.ensures.given))
+          before.joined);
+      slots = agree_given ask w slots given first some c.index_mut.ensures.value c.give-found.ensures.tablet before.slots;
+    }
+
+pub giving-preserved : goal.giving-preserved
+giving-preserved c =
+    let slots = c.giving.self.slots.items in
+    let waiting = c.giving.self.waiting.items in
+    let given = c.give-found.new.self in
+    let first = c.index_mut.result.now in
+    let some : 0 < length slots = omega arith in
+    let ended : first.tablet ≡ None = none_held slots given first c.index.result.now _ some c.give-found.ensures.tablet c.index.ensures c.is_some.ensures c.if-is_some.false in
+    let left = c.remove-ended.ensures.items in
+    record {
+      good = λ ask w page g.
+          let before = c.giving.invariant.good ask w page g in
+          record {
+            joined = rw left (c.in_ok-take_all.ensures.joined page _
+                (joined_same page _ _ _ (remains_given ask w slots waiting given first some c.index_mut.ensures.value ended ∙ ap (λ xs. xs ++ remains ask w (drop 1 (set slots 0 given)) waiting) (sym c.give-found.ensures.given))
+                before.joined));
+            slots = rw left (All-drop (SlotGood ask w) 1 (set slots 0 given) (agree_given ask w slots given first some c.index_mut.ensures.value c.give-found.ensures.tablet before.slots));
+          };
+      fewer = omega arith;
+      waiting = c.giving.invariant.waiting;
+      size = c.in_ok-take_all.ensures.size ∙ c.giving.invariant.size;
+    }
