@@ -93,5 +93,7 @@ pub fn some_ends(view: &NView, field: &Text, text: &Text) -> bool
 pub fn some_holds(view: &NView, field: &Text, text: &Text) -> bool
     ensures { result ≡ some_holds view.now field.now text.now }
 {
-    view.values(field).iter().any(|p| holds(p.form.as_str(), text))
+    view.values(field)
+        .iter()
+        .any(|p| holds(p.form.as_str(), text))
 }

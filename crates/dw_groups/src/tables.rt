@@ -4,8 +4,8 @@ ghost use Rattle.dw_rows.specs.CsvRecords.{csv_record};
 ghost use Rattle.dw_groups.specs.Batches.{rows_of, rows_batch};
 
 use crate::OutOfMemory;
-use crate::limits::MAX_RECORDS;
 use crate::batches::of_batch;
+use crate::limits::MAX_RECORDS;
 use crate::records::Records;
 use csv::{ByteRecord, ReaderBuilder};
 use dw_event::{BadRecord, Record};

@@ -23,7 +23,10 @@ fn records_come_in_three_forms(rt: HostRuntime) -> Result<(), Fail> {
     assert!(rt; read_text(alloc, good.as_bytes())?.is_ok());
     assert!(rt; read_text(alloc, b"")?.err() == Some(BadRecord::Shape));
     assert!(rt; read_text(alloc, b"[")?.err() == Some(BadRecord::Shape));
-    let list = read_json(alloc, br#"[{"type":"fi","date":"20240301","fields":{"n":1}},1.5]"#)?;
+    let list = read_json(
+        alloc,
+        br#"[{"type":"fi","date":"20240301","fields":{"n":1}},1.5]"#,
+    )?;
     let Some(list) = list else {
         return Err(Fail::from("no list"));
     };
@@ -33,11 +36,17 @@ fn records_come_in_three_forms(rt: HostRuntime) -> Result<(), Fail> {
     let Some(batch) = read_batch(alloc, items.as_slice())? else {
         return Err(Fail::from("too many"));
     };
-    assert!(rt; rules(alloc, &batch)?.as_slice() == [Some(BadRecord::Dtype), Some(BadRecord::Shape)].as_slice());
+    assert!(rt;
+        rules(alloc, &batch)?.as_slice()
+            == [Some(BadRecord::Dtype), Some(BadRecord::Shape)].as_slice()
+    );
     let text = b"@type,@date,name\nlab,2024-03-01,x\nlab,2024-02-30,x\nlab\n";
     let Some(table) = read_table(alloc, text)? else {
         return Err(Fail::from("too many"));
     };
-    assert!(rt; rules(alloc, &table)?.as_slice() == [None, Some(BadRecord::Date), Some(BadRecord::Shape)].as_slice());
+    assert!(rt;
+        rules(alloc, &table)?.as_slice()
+            == [None, Some(BadRecord::Date), Some(BadRecord::Shape)].as_slice()
+    );
     Ok(())
 }

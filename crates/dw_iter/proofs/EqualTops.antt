@@ -30,25 +30,25 @@ pub equal_value : (field : List ℕ) (names : List (List ℕ)) (snapshot : ℕ) 
 equal_value field names snapshot value types = λ i key. equal_kept value types (value_at field names snapshot key) i
 
 module _ (t : Held) (field : List ℕ) (names : List (List ℕ)) (snapshot : ℕ) (value : List ℕ) (types : Types) (bound : Bound) (walk : EqualWalk t field names snapshot value types bound)
-  (f : List ℕ → Option Value) (p e : List ℕ) (asked : f ≡ shown_at field names snapshot (Some value) (Some types)) (place : p ≡ bound_place t.shard field value bound) (end : e ≡ value_end t.shard field value)
+    (f : List ℕ → Option Value) (p e : List ℕ) (asked : f ≡ shown_at field names snapshot (Some value) (Some types)) (place : p ≡ bound_place t.shard field value bound) (end : e ≡ value_end t.shard field value)
   where
-  docs_are : (content : List (List ℕ)) (all : List DocKey) → AreDocs (leaf_value field (λ form. pointwise nat_eq form value) names snapshot types) content all → AreDocs (of_value t field names snapshot value types bound) content all
-  docs_are content all h = subst (λ g. AreDocs g content all) (equal_value field names snapshot value types) h
+    docs_are : (content : List (List ℕ)) (all : List DocKey) → AreDocs (leaf_value field (λ form. pointwise nat_eq form value) names snapshot types) content all → AreDocs (of_value t field names snapshot value types bound) content all
+    docs_are content all h = subst (λ g. AreDocs g content all) (equal_value field names snapshot value types) h
 
-  walk_is : (content : List (List ℕ)) → filter_map f (between p e content) ≡ walked t field names snapshot value types bound content
-  walk_is content = λ i. filter_map (asked i) (between (place i) (end i) content)
+    walk_is : (content : List (List ℕ)) → filter_map f (between p e content) ≡ walked t field names snapshot value types bound content
+    walk_is content = λ i. filter_map (asked i) (between (place i) (end i) content)
 
-  known_is : filter_map f (known_keys t p e) ≡ walked_known t field names snapshot value types bound
-  known_is = λ i. filter_map (asked i) (known_keys t (place i) (end i))
+    known_is : filter_map f (known_keys t p e) ≡ walked_known t field names snapshot value types bound
+    known_is = λ i. filter_map (asked i) (known_keys t (place i) (end i))
 
-  pub top_first : (v : Value) → ((content : List (List ℕ)) → Agrees t content → slice_get (filter_map f (between p e content)) 0 ≡ Some v) → (all : List DocKey) → StandsFor t field (λ form. pointwise nat_eq form value) names snapshot types all → slice_get (rest all bound) 0 ≡ Some v.1
-  top_first v h all s = walk.first s.0 all v s.1 (docs_are s.0 all s.2) (ap (λ vs. slice_get vs 0) (sym (walk_is s.0)) ∙ h s.0 s.1)
+    pub top_first : (v : Value) → ((content : List (List ℕ)) → Agrees t content → slice_get (filter_map f (between p e content)) 0 ≡ Some v) → (all : List DocKey) → StandsFor t field (λ form. pointwise nat_eq form value) names snapshot types all → slice_get (rest all bound) 0 ≡ Some v.1
+    top_first v h all s = walk.first s.0 all v s.1 (docs_are s.0 all s.2) (ap (λ vs. slice_get vs 0) (sym (walk_is s.0)) ∙ h s.0 s.1)
 
-  pub top_none : ((content : List (List ℕ)) → Agrees t content → filter_map f (between p e content) ≡ []) → (all : List DocKey) → StandsFor t field (λ form. pointwise nat_eq form value) names snapshot types all → rest all bound ≡ []
-  top_none h all s = walk.none s.0 all s.1 (docs_are s.0 all s.2) (sym (walk_is s.0) ∙ h s.0 s.1)
+    pub top_none : ((content : List (List ℕ)) → Agrees t content → filter_map f (between p e content) ≡ []) → (all : List DocKey) → StandsFor t field (λ form. pointwise nat_eq form value) names snapshot types all → rest all bound ≡ []
+    top_none h all s = walk.none s.0 all s.1 (docs_are s.0 all s.2) (sym (walk_is s.0) ∙ h s.0 s.1)
 
-  pub known_at : (v : Value) → slice_get (filter_map f (known_keys t p e)) 0 ≡ Some v → slice_get (walked_known t field names snapshot value types bound) 0 ≡ Some v
-  known_at v h = ap (λ vs. slice_get vs 0) (sym known_is) ∙ h
+    pub known_at : (v : Value) → slice_get (filter_map f (known_keys t p e)) 0 ≡ Some v → slice_get (walked_known t field names snapshot value types bound) 0 ≡ Some v
+    known_at v h = ap (λ vs. slice_get vs 0) (sym known_is) ∙ h
 
 -- ---- what it was made from
 

@@ -34,13 +34,7 @@ fn doc_at(values: &FieldValues<'_>, at: usize, leaf: &NQuery) -> Option<DocKey>
 {
     match values.value_at(at) {
         None => None,
-        Some((value, doc)) => {
-            if meets(leaf, value) {
-                Some(doc)
-            } else {
-                None
-            }
-        }
+        Some((value, doc)) => { if meets(leaf, value) { Some(doc) } else { None } }
     }
 }
 

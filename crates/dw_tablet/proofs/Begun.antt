@@ -126,8 +126,8 @@ stand_in_fronts shard field text names snapshot key v low high said begun =
     let more = escaped w.0 ++ (0 ∷ 255 ∷ (escaped (doc_text v.1) ++ (0 ∷ 0 ∷ k.rest))) in
     let is : key ≡ values_front shard field text ++ more =
     k.is
-        ∙ ap (λ l. field_start shard field ++ l) (ap (λ x. escaped x ++ (0 ∷ 255 ∷ (escaped (doc_text v.1) ++ (0 ∷ 0 ∷ k.rest)))) w.1
-        ∙ ap (λ x. x ++ (0 ∷ 255 ∷ (escaped (doc_text v.1) ++ (0 ∷ 0 ∷ k.rest)))) (escaped-append text w.0)
-        ∙ joined_on (escaped text) (escaped w.0) (0 ∷ 255 ∷ (escaped (doc_text v.1) ++ (0 ∷ 0 ∷ k.rest))))
-        ∙ sym (joined_on (field_start shard field) (escaped text) more) in
+    ∙ ap (λ l. field_start shard field ++ l) (ap (λ x. escaped x ++ (0 ∷ 255 ∷ (escaped (doc_text v.1) ++ (0 ∷ 0 ∷ k.rest)))) w.1
+    ∙ ap (λ x. x ++ (0 ∷ 255 ∷ (escaped (doc_text v.1) ++ (0 ∷ 0 ∷ k.rest)))) (escaped-append text w.0)
+    ∙ joined_on (escaped text) (escaped w.0) (0 ∷ 255 ∷ (escaped (doc_text v.1) ++ (0 ∷ 0 ∷ k.rest))))
+    ∙ sym (joined_on (field_start shard field) (escaped text) more) in
     ap (begins (values_front shard field text)) is ∙ begins_so (values_front shard field text) more

@@ -91,7 +91,7 @@ in_order shard field value key later d e k l h =
     let front = value_start shard field value in
     let there : is_lt (ordering_then (slice_cmp nat_cmp (doc_text d) (doc_text e)) (slice_cmp nat_cmp k.rest l.rest)) ≡ true =
     ap is_lt (sym (same_front front (escaped (doc_text d) ++ (0 ∷ 0 ∷ k.rest)) (escaped (doc_text e) ++ (0 ∷ 0 ∷ l.rest)) ∙ slice_cmp-parts (doc_text d) (doc_text e) k.rest l.rest))
-        ∙ (λ i. below (sym (behind shard field key (value, d) k) i) (sym (behind shard field later (value, e) l) i))
-        ∙ h in
+    ∙ (λ i. below (sym (behind shard field key (value, d) k) i) (sym (behind shard field later (value, e) l) i))
+    ∙ h in
     ap is_lt (doc_keys_total.antisymm e d ∙ ap ordering_reverse (sym (docs_order d e k.doc l.doc)))
     ∙ not_after (slice_cmp nat_cmp (doc_text d) (doc_text e)) (slice_cmp nat_cmp k.rest l.rest) there

@@ -247,10 +247,10 @@ module _ (t : Held) (field : List ℕ) (names : List (List ℕ)) (snapshot : ℕ
   walk : EqualWalk t field names snapshot value types bound
   walk = record {
     first = λ content all v agrees docs h.
-    let l = first_least In f bound (bound_place t.shard field value bound) (value_end t.shard field value) placed content agrees.is.ascends (in_content content agrees) v h in
-    least_first all bound v.1 docs.ascends (docs.has v.1 ∙ l.said) l.met (λ x s m. l.least x (sym (docs.has x) ∙ s) m);
+        let l = first_least In f bound (bound_place t.shard field value bound) (value_end t.shard field value) placed content agrees.is.ascends (in_content content agrees) v h in
+        least_first all bound v.1 docs.ascends (docs.has v.1 ∙ l.said) l.met (λ x s m. l.least x (sym (docs.has x) ∙ s) m);
     none = λ content all agrees docs h.
-    none_meets all bound (λ x s. none_left In f bound (bound_place t.shard field value bound) (value_end t.shard field value) placed content (in_content content agrees) h x (sym (docs.has x) ∙ s));
+        none_meets all bound (λ x s. none_left In f bound (bound_place t.shard field value bound) (value_end t.shard field value) placed content (in_content content agrees) h x (sym (docs.has x) ∙ s));
     met = λ v h. met_key v h;
     known = λ v h. from_stands (docs_of f t.keys) v.1 (known_key v h).stands;
   }

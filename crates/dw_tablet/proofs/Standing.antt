@@ -52,17 +52,17 @@ module _ (shard field : List ℕ) (names : List (List ℕ)) (snapshot : ℕ) whe
       let there : is_lt (ordering_then (slice_cmp nat_cmp (zero_joined v.0 (doc_text v.1)) (zero_joined w.0 (doc_text w.1))) (slice_cmp nat_cmp k.rest l.rest)) ≡ true =
       ap is_lt (sym (same_front front (escaped (zero_joined v.0 (doc_text v.1)) ++ 0 ∷ 0 ∷ k.rest) (escaped (zero_joined w.0 (doc_text w.1)) ++ 0 ∷ 0 ∷ l.rest)
       ∙ slice_cmp-parts (zero_joined v.0 (doc_text v.1)) (zero_joined w.0 (doc_text w.1)) k.rest l.rest))
-          ∙ (λ i. below (sym (behind key v k) i) (sym (behind later w l) i))
-          ∙ h in
+      ∙ (λ i. below (sym (behind key v k) i) (sym (behind later w l) i))
+      ∙ h in
       ap is_gt (ap (ordering_then (slice_cmp nat_cmp v.0 w.0)) (sym (docs_order v.1 w.1 k.doc l.doc)) ∙ sym (zero_order v.0 w.0 (doc_text v.1) (doc_text w.1) k.value l.value))
       ∙ not_greater (slice_cmp nat_cmp (zero_joined v.0 (doc_text v.1)) (zero_joined w.0 (doc_text w.1))) (slice_cmp nat_cmp k.rest l.rest) there
 
   values_stand : ValuesStand shard field names snapshot
   values_stand = record {
     from = λ key v of said. let k = key_of key v of said in
-    ap (λ p. below p (field_start shard field)) (behind key v k) ∙ not_below_front (field_start shard field) (escaped (zero_joined v.0 (doc_text v.1)) ++ 0 ∷ 0 ∷ k.rest);
+        ap (λ p. below p (field_start shard field)) (behind key v k) ∙ not_below_front (field_start shard field) (escaped (zero_joined v.0 (doc_text v.1)) ++ 0 ∷ 0 ∷ k.rest);
     before = λ key v of said. let k = key_of key v of said in
-    ap (λ p. below p (field_end shard field)) (behind key v k) ∙ in_field shard field (escaped (zero_joined v.0 (doc_text v.1)) ++ 0 ∷ 0 ∷ k.rest);
+        ap (λ p. below p (field_end shard field)) (behind key v k) ∙ in_field shard field (escaped (zero_joined v.0 (doc_text v.1)) ++ 0 ∷ 0 ∷ k.rest);
     ascend = λ key later v w of other said told h. in_order key later v w (key_of key v of said) (key_of later w other told) h;
   }
 
@@ -118,9 +118,9 @@ cells_stand_in_documents shard key said of h =
     let front = document_front shard (doc_text said.doc) in
     let is : key ≡ front ++ (0 ∷ k.rest) =
     k.is
-        ∙ ap (λ r. part_code r ++ tail) row
-        ∙ ap (λ l. part_code shard ++ l) (part_code-then (doc_text said.doc) k.rest ∙ sym (joined_on (escaped (doc_text said.doc)) (0 ∷ []) (0 ∷ k.rest)))
-        ∙ sym (joined_on (part_code shard) (escaped (doc_text said.doc) ++ 0 ∷ []) (0 ∷ k.rest)) in
+    ∙ ap (λ r. part_code r ++ tail) row
+    ∙ ap (λ l. part_code shard ++ l) (part_code-then (doc_text said.doc) k.rest ∙ sym (joined_on (escaped (doc_text said.doc)) (0 ∷ []) (0 ∷ k.rest)))
+    ∙ sym (joined_on (part_code shard) (escaped (doc_text said.doc) ++ 0 ∷ []) (0 ∷ k.rest)) in
     record {
       from = ap (λ p. below p (document_start shard said.doc)) (is ∙ sym (joined_on front (0 ∷ []) k.rest)) ∙ not_below_front (document_start shard said.doc) k.rest;
       before = ap (λ p. below p (document_end shard said.doc)) is ∙ under front k.rest;

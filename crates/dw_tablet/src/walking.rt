@@ -129,7 +129,13 @@ impl<'t> Cursor<'t> {
     {
         let _spans = self.tablet.spans();
         if let Some(key) = self.keys.first() {
-            *self = cursor_at(self.tablet, self.asked, None, Bound::Start, Some(key.code()));
+            *self = cursor_at(
+                self.tablet,
+                self.asked,
+                None,
+                Bound::Start,
+                Some(key.code()),
+            );
         }
     }
 
@@ -152,7 +158,13 @@ impl<'t> Cursor<'t> {
             Gap::Later { place } => Ok(Some(Bytes::of(alloc, place)?)),
             Gap::Here => {
                 let shard = self.tablet.shard().as_str();
-                let position = start_of(shard, self.asked.field, self.value, &self.bound, self.past);
+                let position = start_of(
+                    shard,
+                    self.asked.field,
+                    self.value,
+                    &self.bound,
+                    self.past,
+                );
                 Ok(Some(position.to_bytes(alloc)?))
             }
         }
