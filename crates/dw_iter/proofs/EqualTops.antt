@@ -10,7 +10,7 @@ use Rattle.dw_tablet.specs.Held.{Held, Agrees}
 use Rattle.dw_tablet.specs.Places.{between}
 use Rattle.dw_tablet.specs.Positions.{bound_place, value_end}
 use Rattle.dw_tablet.specs.Cursors.{known_keys}
-use Rattle.dw_tablet.specs.Values.{Value, value_at, is_only, is_of, kept_if, shown_at, AreDocs}
+use Rattle.dw_tablet.specs.Values.{Value, value_at, is_of, kept_if, shown_at, AreDocs}
 use Rattle.dw_tablet.specs.EqualWalks.{EqualWalk, of_value, walked, walked_known}
 use Rattle.dw_iter.specs.LeafLists.{passed_if, leaf_value, StandsFor}
 

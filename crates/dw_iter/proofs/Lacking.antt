@@ -1,5 +1,5 @@
 -- The places that an iterator over one value may lack.
-use Rattle.std.proofs.Common.{◌≡◌, ℕ, Bool, true, false, not, ◌&&◌, ◌||◌, List, [], ◌∷◌, ◌++◌, refl, sym, ap, subst, ◌∙◌}
+use Rattle.std.proofs.Common.{◌≡◌, ℕ, true, false, not, ◌&&◌, ◌||◌, List, [], ◌∷◌, ◌++◌, refl, sym, ap, subst, ◌∙◌}
 use Rattle.std.specs.Prelude.{Option, Some, None, IfSome}
 use Rattle.std.proofs.lemmas.Bool.{and_from, not_from_false}
 use Rattle.dw_key.specs.KeyCode.{escaped}
@@ -12,7 +12,7 @@ use Rattle.dw_tablet.specs.Places.{below, covers, in_span, IsGap}
 use Rattle.dw_tablet.specs.Positions.{value_start, value_end, bound_place}
 use Rattle.dw_tablet.proofs.Order.{upto, not_itself}
 use Rattle.dw_tablet.proofs.EqualPlaces.{not_below_front}
-use Rattle.dw_iter.specs.Made.{ends_of, lies_within, made_of, LacksPlace, is_value_place}
+use Rattle.dw_iter.specs.Made.{ends_of, lies_within, made_of, LacksPlace}
 
 -- what lies within the ends is covered
 pub within_ends : (spans : List Span) (place : List ℕ) → lies_within (ends_of spans) place ≡ covers spans place

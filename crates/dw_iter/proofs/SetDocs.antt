@@ -10,13 +10,13 @@ use Rattle.dw_base.proofs.Members.{StandsIn, stands_from, from_stands}
 use Rattle.dw_key.specs.declared.doc_key.DocKey.{DocKey}
 use Rattle.dw_key.specs.DocKeys.{doc_key_cmp}
 use Rattle.dw_event.specs.declared.types.Types.{Types}
-use Rattle.dw_nest.specs.Bounds.{Ascends, has}
+use Rattle.dw_nest.specs.Bounds.{has}
 use Rattle.dw_eval.specs.declared.nquery.NQuery.{NQuery}
 use Rattle.dw_eval.specs.Meeting.{meets, field_of, front_of, FormsBeginSo}
 use Rattle.dw_tablet.specs.Held.{Held, Agrees}
 use Rattle.dw_tablet.specs.Places.{below, AreFrom, AreBefore, shard_start, shard_end}
 use Rattle.dw_tablet.specs.Fronts.{begins, with_front, values_front, ValuesStandInFronts}
-use Rattle.dw_tablet.specs.Values.{Value, value_at, shown_at, is_of_doc, some_says, AreDocs}
+use Rattle.dw_tablet.specs.Values.{Value, value_at, shown_at, is_of_doc, some_says}
 use Rattle.dw_tablet.proofs.Equals.{kept_some}
 use Rattle.dw_tablet.proofs.LeastDocs.{same_doc, itself}
 use Rattle.dw_iter.specs.LeafLists.{passed_if, doc_where, leaf_value, AreLeafDocs}

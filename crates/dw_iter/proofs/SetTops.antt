@@ -1,6 +1,6 @@
 -- Sorted sets of document keys, and the first one that meets a bound.
-use Rattle.std.proofs.Common.{◌≡◌, ℕ, ◌<◌, ◌≤◌, zero, suc, List, [], ◌∷◌, length, take, drop, get_or, refl, sym, ap, subst, ◌∙◌, Bool, true, false, not, cond, ◌||◌, inl, inr, arith}
-use Rattle.std.specs.Prelude.{filter, slice_get, Contains, Option, Some, None, ◌⊎◌}
+use Rattle.std.proofs.Common.{◌≡◌, ℕ, ◌<◌, ◌≤◌, zero, suc, List, [], ◌∷◌, length, get_or, refl, sym, ap, ◌∙◌, Bool, true, false, not, cond, ◌||◌, inl, inr, arith}
+use Rattle.std.specs.Prelude.{slice_get, Contains, Some, None, ◌⊎◌}
 use Rattle.dw_base.proofs.Members.{StandsIn, from_stands}
 use Rattle.std.specs.List.{AllByRecursion}
 use Rattle.std.specs.List.Sorted.{IsPartitionedBy, IsPartitionPoint, IsStrictlySortedBy}

@@ -1,5 +1,5 @@
 -- The documents that a leaf stands for.
-use Rattle.std.specs.Prelude.{◌≡◌, ℕ, Bool, true, List, Option, Some, None, if◌then◌else◌}
+use Rattle.std.specs.Prelude.{◌≡◌, ℕ, Bool, List, Option, Some, None, if◌then◌else◌}
 use Rattle.std.specs.Option.{option_map}
 use Rattle.dw_key.specs.declared.doc_key.DocKey.{DocKey}
 use Rattle.dw_event.specs.declared.types.Types.{Types}

@@ -1,5 +1,5 @@
 -- What an iterator over a cursor shows.
-use Rattle.std.specs.Prelude.{◌≡◌, ℕ, Bool, cond, List, slice_get, Option, Some, None}
+use Rattle.std.specs.Prelude.{◌≡◌, ℕ, cond, List, slice_get, Option, Some, None}
 use Rattle.dw_key.specs.declared.doc_key.DocKey.{DocKey}
 use Rattle.dw_nest.specs.declared.bound.Top.{Top}
 use Rattle.dw_nest.specs.declared.bound.Top.TheVariants.{Key, End, Missing}

@@ -1,5 +1,5 @@
 -- A query that is bound by a dictionary has its rules.
-use Rattle.std.proofs.Common.{◌≡◌, ℕ, ◌==◌, Bool, true, false, not, ◌&&◌, ◌||◌, List, [], ◌∷◌, map, Option, Some, None, refl, sym, ap, subst, ◌∙◌}
+use Rattle.std.proofs.Common.{◌≡◌, ℕ, ◌==◌, Bool, true, false, not, ◌&&◌, ◌||◌, List, [], ◌∷◌, map, Option, Some, None, refl, sym, subst, ◌∙◌}
 use denote.Hole.Carrier.{roll}
 use Rattle.std.specs.Prelude.{option_map, encode_utf8_all}
 use Rattle.std.specs.List.{list_all}

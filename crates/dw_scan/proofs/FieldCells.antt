@@ -1,12 +1,12 @@
 -- What the cells that an event gives say to a leaf.
-use Rattle.std.proofs.Common.{◌≡◌, ◌≢◌, ℕ, ◌<◌, ◌≤◌, ◌^◌, ◌==◌, zero, suc, Bool, true, false, not, cond, ◌&&◌, ◌||◌, ◌⊎◌, inl, inr, List, [], ◌∷◌, ◌++◌, map, filter, refl, sym, ap, subst, ◌∙◌, arith, append_assoc}
-use Rattle.std.specs.Prelude.{Option, Some, None, nat_le, nat_eq, All, IsTrue, if◌then◌else◌}
+use Rattle.std.proofs.Common.{◌≡◌, ◌≢◌, ℕ, ◌<◌, ◌≤◌, ◌^◌, ◌==◌, zero, suc, Bool, true, false, not, ◌&&◌, ◌||◌, ◌⊎◌, inl, inr, List, [], ◌∷◌, ◌++◌, refl, sym, ap, ◌∙◌, arith, append_assoc}
+use Rattle.std.specs.Prelude.{Option, Some, None, nat_le, nat_eq, if◌then◌else◌}
 use Rattle.std.specs.Option.{option_map_or}
 use Rattle.std.specs.List.{list_any, list_all, starts_with, AllByRecursion}
-use Rattle.std.specs.Ordering.{nat_cmp, is_eq}
+use Rattle.std.specs.Ordering.{is_eq}
 use Rattle.std.specs.Str.{is_utf8}
 use Rattle.std.specs.Cmp.{both_ways}
-use Rattle.std.specs.Cmp.Lexicographic.{slice_cmp, pointwise, bytes_decides}
+use Rattle.std.specs.Cmp.Lexicographic.{pointwise, bytes_decides}
 use Rattle.std.proofs.lemmas.Str.{IsUtf8-from_is_utf8, is_utf8-from_IsUtf8}
 use Rattle.std.proofs.lemmas.List.Folds.{list_any-append}
 use Rattle.std.proofs.lemmas.List.Elements.{recursion_from_All, All-from_recursion}
@@ -35,25 +35,23 @@ use Rattle.dw_outside.specs.Tables.{is_in_span}
 use Rattle.dw_outside.proofs.Spanning.{prefix_span}
 use Rattle.dw_base.specs.FieldNames.{is_folded_name}
 use Rattle.dw_derive.specs.declared.event_cells.Entry.{Entry}
-use Rattle.dw_derive.specs.Entries.{zero_joined, doc_text, field_index, event_key, field_key, forward_entries, backward_entries, index_entries, cell_entries, entries_of, slot_of, slots_of}
+use Rattle.dw_derive.specs.Entries.{event_key, field_key, forward_entries, backward_entries, index_entries, cell_entries, entries_of, slot_of, slots_of}
 use Rattle.dw_derive.specs.Lawful.{record_of, IsEvent}
-use Rattle.dw_derive.specs.Readers.{EventReading, IndexReading, event_reading, index_reading}
+use Rattle.dw_derive.specs.Readers.{index_reading}
 use Rattle.dw_derive.specs.ReaderLaws.{IsDocKey, IsPlainText}
 use Rattle.dw_derive.proofs.Decoding.{key_of_code}
-use Rattle.dw_derive.proofs.Lists.{any_flat, any_mapped, any_alike}
+use Rattle.dw_derive.proofs.Lists.{any_flat, any_mapped}
 use Rattle.dw_derive.proofs.Reading.{begins_with, begins, field_is_plain}
 use Rattle.dw_derive.proofs.Rereading.{event_keys, field_keys}
 use Rattle.dw_derive.proofs.Shards.{left, right, KeepsRules, rules_of}
 use Rattle.dw_eval.specs.Laws.{passes}
-use Rattle.dw_tablet.specs.declared.said.Said.{Said}
-use Rattle.dw_tablet.specs.declared.said.Said.TheVariants.{OfEvent, OfIndex, Nothing}
+use Rattle.dw_tablet.specs.declared.said.Said.TheVariants.{Nothing}
 use Rattle.dw_tablet.specs.Said.{event_said, index_said, key_said, visible_said, said_of}
 use Rattle.dw_tablet.specs.Places.{shard_start, shard_end}
-use Rattle.dw_tablet.specs.Values.{Value, value_if, value_at, is_of, kept_if, shown_at, is_of_doc}
+use Rattle.dw_tablet.specs.Values.{Value, value_if, value_at, kept_if, is_of_doc}
 use Rattle.dw_iter.specs.LeafLists.{passed_if, leaf_value}
 use Rattle.dw_plan.proofs.Named.{same_is, same_itself}
 use Rattle.dw_plan.proofs.NormTexts.{norm_utf8}
-use Rattle.dw_scan.specs.Worlds.{IsIndexedAlike}
 
 -- ---- texts
 

@@ -1,5 +1,5 @@
 -- The iterators of the leaves of a query.
-use Rattle.std.proofs.Common.{◌≡◌, ℕ, Bool, true, false, cond, ◌&&◌, ◌||◌, List, [], ◌∷◌, refl, sym, ap, subst, ◌∙◌}
+use Rattle.std.proofs.Common.{◌≡◌, ℕ, Bool, true, false, ◌&&◌, ◌||◌, List, [], ◌∷◌, refl, sym, ap, subst, ◌∙◌}
 use Rattle.std.specs.Prelude.{nat_eq, IsTrue}
 use Rattle.std.specs.List.{AllByRecursion}
 use Rattle.std.specs.Ordering.{is_eq}
@@ -9,25 +9,22 @@ use Rattle.dw_key.specs.declared.doc_key.DocKey.{DocKey}
 use Rattle.dw_key.specs.DocKeys.{doc_key_cmp}
 use Rattle.dw_event.specs.Texts.{is_same}
 use Rattle.dw_event.specs.declared.types.Types.{Types}
-use Rattle.dw_nest.specs.declared.tree.Tree.{Tree}
 use Rattle.dw_nest.specs.declared.tree.Tree.TheVariants as tree
 use Rattle.dw_nest.specs.declared.tree.Tree.TheOpen as layer
 use Rattle.dw_nest.specs.declared.tree.Tree.TheViews.{roll-Tree}
 use Rattle.dw_nest.specs.declared.tree.Tree.TheFolds.{fold-roll-Tree}
 use denote.Hole.Carrier.{roll}
 use Rattle.dw_nest.specs.Bounds.{Ascends, has, is_before}
-use Rattle.dw_nest.specs.Shapes.{Shape, leaf, unknown, shape, shape_step, Alike}
+use Rattle.dw_nest.specs.Shapes.{Shape, leaf, shape, shape_step, Alike}
 use Rattle.dw_nest.proofs.Order.{total, exact, not_both, not_itself}
 use Rattle.dw_outside.proofs.CellMaps.{tied}
 use Rattle.dw_tablet.specs.Held.{Held, Agrees}
 use Rattle.dw_tablet.specs.Places.{covers}
-use Rattle.dw_tablet.specs.Values.{AreDocs, some_says}
 use Rattle.dw_iter.specs.declared.equal.EqualLeaf.{EqualLeaf}
 use Rattle.dw_iter.specs.declared.set.SetLeaf.{SetLeaf}
 use Rattle.dw_iter.specs.declared.leaf.Leaf.{Leaf}
 use Rattle.dw_iter.specs.declared.leaf.Leaf.TheVariants.{Equal, Set}
-use Rattle.dw_iter.specs.LeafLists.{leaf_value, AreLeafDocs}
-use Rattle.dw_iter.specs.LeafParts.{LeafStands}
+use Rattle.dw_iter.specs.LeafLists.{AreLeafDocs}
 use Rattle.dw_iter.specs.Made.{is_value_place, LacksPlace, made_of}
 use Rattle.dw_iter.proofs.Lacking.{within_ends}
 use Rattle.dw_scan.specs.declared.ask.Ask.{Ask}

@@ -1,7 +1,7 @@
 -- The leaves of a query, and trees of iterators over them.
 use Rattle.std.proofs.Common.{◌≡◌, ℕ, ◌<◌, ◌≤◌, zero, suc, Bool, true, false, cond, ◌&&◌, List, [], ◌∷◌, ◌++◌, map, length, drop, refl, sym, ap, subst, ◌∙◌, arith}
 use denote.Hole.Carrier.{roll}
-use Rattle.std.specs.Prelude.{nat_eq, slice_index_or}
+use Rattle.std.specs.Prelude.{slice_index_or}
 use Rattle.std.proofs.lemmas.List.{drop_all}
 use Rattle.std.specs.declared.boxed.Box.{Box}
 use Rattle.std.proofs.Common.{Vec, Global}

@@ -1,15 +1,13 @@
 -- Why there is no tree of a query.
 use Rattle.std.proofs.Common.{◌≡◌, ℕ, ◌<◌, zero, suc, Bool, true, false, ◌||◌, List, [], ◌∷◌, ◌++◌, map, length, refl, sym, ap, subst, ◌∙◌, arith}
-use denote.Hole.Carrier.{roll}
 use Rattle.std.specs.Prelude.{slice_index_or, nat_eq}
 use Rattle.std.proofs.lemmas.Bool.Decides.{nat_tests}
 use Rattle.std.specs.List.{list_any}
 use Rattle.std.proofs.lemmas.List.Folds.{list_any-append}
-use Rattle.dw_nest.specs.Shapes.{Shape, unknown, and, or, leaves, joined}
+use Rattle.dw_nest.specs.Shapes.{Shape, unknown, leaves, joined}
 use Rattle.dw_eval.specs.declared.nquery.NQuery.{NQuery}
 use Rattle.dw_eval.specs.declared.nquery.NQuery.TheVariants as nquery
 use Rattle.dw_tablet.specs.Held.{Held}
-use Rattle.dw_tablet.specs.Places.{covers}
 use Rattle.dw_tablet.specs.declared.field_values.LeafError.{LeafError}
 use Rattle.dw_tablet.specs.declared.field_values.LeafError.TheVariants.{Missing, OutOfMemory}
 use Rattle.dw_scan.specs.Parts.{LeafPart, parts_of, is_leaf_place, IsTreeError, IsTreesError}

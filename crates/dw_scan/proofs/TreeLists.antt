@@ -1,10 +1,10 @@
 -- The tree of a query beside the shape of its lists.
 use Rattle.std.proofs.Common.{◌≡◌, ℕ, ◌<◌, zero, suc, Bool, true, false, cond, ◌&&◌, ◌||◌, ◌⊎◌, inl, inr, List, [], ◌∷◌, ◌++◌, map, length, refl, sym, ap, subst, ◌∙◌, arith}
-use Rattle.std.specs.Prelude.{nat_eq, not, slice_index_or, Contains, ◌==◌}
+use Rattle.std.specs.Prelude.{nat_eq, not, slice_index_or, ◌==◌}
 use Rattle.std.specs.List.{list_all, list_any, starts_with, ends_with}
 use Rattle.std.proofs.lemmas.Bool.{and_parts}
 use Rattle.std.proofs.lemmas.List.Folds.{list_any-append}
-use Rattle.dw_base.proofs.Members.{StandsIn, stands_from}
+use Rattle.dw_base.proofs.Members.{StandsIn}
 use Rattle.dw_dict.specs.Dictionary.{Dictionary, rule_of}
 use Rattle.dw_dict.specs.Rules.{widens}
 use Rattle.dw_dict.specs.declared.rule.FieldRule.{FieldRule}

@@ -1,23 +1,22 @@
 -- A search by the tree of a query is one of a world's shard.
-use Rattle.std.proofs.Common.{◌≡◌, ◌≢◌, ◌⊎◌, ◌<◌, ◌+◌, ◌++◌, inl, inr, ℕ, Bool, true, false, List, [], length, map, refl, sym, ap, subst, ◌∙◌, arith}
-use Rattle.std.specs.Prelude.{Option, Some, None, IfSome, Contains, IsTrue, length as list_length}
+use Rattle.std.proofs.Common.{◌≡◌, ◌≢◌, ◌⊎◌, ◌<◌, ◌+◌, ◌++◌, inl, inr, ℕ, Bool, true, false, List, [], length, map, sym, ap, ◌∙◌}
+use Rattle.std.specs.Prelude.{Option, Some, None, IfSome}
 use Rattle.dw_base.proofs.Members.{stands_from}
 use Rattle.dw_key.specs.declared.doc_key.DocKey.{DocKey}
-use Rattle.dw_event.specs.declared.reports.Shown.{Shown}
 use Rattle.dw_nest.specs.declared.tree.Tree.{Tree}
 use Rattle.dw_nest.specs.declared.place.Place.TheVariants.{Positive}
-use Rattle.dw_nest.specs.Shapes.{Shape, shape, leaves, Alike, is_enumerable}
+use Rattle.dw_nest.specs.Shapes.{shape, leaves, is_enumerable}
 use Rattle.dw_plan.specs.Anchored.{anchored}
 use Rattle.dw_plan.specs.PlanLaws.{is_ruled}
 use Rattle.dw_derive.specs.World.{World}
-use Rattle.dw_tablet.specs.Held.{Held, Agrees}
+use Rattle.dw_tablet.specs.Held.{Held}
 use Rattle.dw_tablet.specs.Places.{covers}
 use Rattle.dw_iter.specs.declared.leaf.Leaf.{Leaf}
 use Rattle.dw_iter.specs.LeafParts.{LeafStands, made_from}
 use Rattle.dw_iter.specs.Made.{LacksPlace}
 use Rattle.dw_scan.specs.declared.ask.Ask.{Ask}
 use Rattle.dw_scan.specs.declared.ask.Batch.{Batch}
-use Rattle.dw_scan.specs.Answers.{left, answer_after, IsLater, IsShard}
+use Rattle.dw_scan.specs.Answers.{IsShard}
 use Rattle.dw_scan.specs.Batches.{IsOfWorld, IsBatch}
 use Rattle.dw_scan.specs.Candidates.{TreesFindCandidates, leaf_keys}
 use Rattle.dw_scan.specs.Parts.{IsLeafOf, IsLeafGap, IsTreeOf, parts_of}
@@ -25,7 +24,7 @@ use Rattle.dw_scan.specs.Scanned.{Scanned, IsOfNext}
 use Rattle.dw_scan.specs.Stops.{SomeLacks}
 use Rattle.dw_scan.specs.Trees.{tree_of}
 use Rattle.dw_scan.specs.Worlds.{content_of, shard_seen, SeenAscend, LeavesFindTheSeen}
-use Rattle.dw_scan.specs.WorldAnswers.{candidates_in, answer_in, AnswersAreSeen}
+use Rattle.dw_scan.specs.WorldAnswers.{candidates_in, AnswersAreSeen}
 use Rattle.dw_scan.proofs.TreeLists.{lists_alike, tree_enumerable, some_lacked}
 
 pub built_enumerable : (tablet : Held) (ask : Ask) (t : Tree Leaf) → is_ruled ask.dict ask.query ≡ true → anchored ask.query ≡ true → IsTreeOf tablet ask t ask.query → is_enumerable Positive (shape t) ≡ true

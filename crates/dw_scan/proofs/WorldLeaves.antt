@@ -1,6 +1,6 @@
 -- The documents of a leaf in the shard of a world are the events that are seen there.
-use Rattle.std.proofs.Common.{◌≡◌, ◌↔◌, ℕ, ◌==◌, Bool, true, false, cond, ◌&&◌, ◌||◌, ◌⊎◌, inl, inr, List, [], ◌∷◌, map, filter, refl, sym, ap, subst, ◌∙◌}
-use Rattle.std.specs.Prelude.{nat_le, Contains}
+use Rattle.std.proofs.Common.{◌≡◌, ◌↔◌, ℕ, ◌==◌, Bool, true, false, ◌&&◌, ◌||◌, ◌⊎◌, inl, inr, List, [], ◌∷◌, map, filter, refl, sym, ap, ◌∙◌}
+use Rattle.std.specs.Prelude.{nat_le}
 use Rattle.std.specs.List.{list_any, AllByRecursion}
 use Rattle.std.specs.FinMap as finmap
 use Rattle.std.specs.Ordering.{is_eq}
@@ -39,7 +39,7 @@ use Rattle.dw_nest.specs.Bounds.{has}
 use Rattle.dw_tablet.specs.Places.{shard_start, shard_end}
 use Rattle.dw_tablet.specs.Values.{is_of_doc, some_says}
 use Rattle.dw_iter.specs.LeafLists.{leaf_value}
-use Rattle.dw_scan.specs.Candidates.{keys_of, leaf_keys}
+use Rattle.dw_scan.specs.Candidates.{leaf_keys}
 use Rattle.dw_scan.specs.Worlds.{content_of, shard_seen, IsIndexedAlike, LeavesFindTheSeen}
 use Rattle.dw_scan.proofs.Found.{kept_ascend}
 use Rattle.dw_scan.proofs.ShardOrder.{seen_ascend}

@@ -1,6 +1,6 @@
 -- The leaves on indexed fields of a query: what each asks of a value, and which places its cells may have.
-use Rattle.std.specs.Prelude.{◌≡◌, ℕ, Bool, true, false, ◌&&◌, cond, List, [], ◌∷◌, length, slice_index_or, nat_eq, map as list_map}
-use Rattle.std.specs.List.{starts_with, ends_with, list_any, AllByRecursion}
+use Rattle.std.specs.Prelude.{◌≡◌, ℕ, Bool, true, false, ◌&&◌, cond, List, [], ◌∷◌, length, slice_index_or, nat_eq}
+use Rattle.std.specs.List.{starts_with, ends_with, list_any}
 use Rattle.dw_key.specs.declared.doc_key.DocKey.{DocKey}
 use Rattle.dw_dict.specs.declared.rule.FieldRule.{FieldRule}
 use Rattle.dw_event.specs.Texts.{is_same}

@@ -1,6 +1,6 @@
 -- Keys that begin with some bytes.
-use Rattle.std.proofs.Common.{◌≡◌, ℕ, ◌<◌, ◌≤◌, List, [], ◌∷◌, ◌++◌, refl, sym, ap, subst, ◌∙◌, Bool, true, false, not, cond, ◌&&◌, length, take, drop, get_or, arith, zero, suc}
-use Rattle.std.specs.Prelude.{filter, nat_eq, Option, Some, None}
+use Rattle.std.proofs.Common.{◌≡◌, ℕ, ◌<◌, ◌≤◌, List, [], ◌∷◌, ◌++◌, refl, sym, ap, subst, ◌∙◌, Bool, true, false, not, cond, ◌&&◌, length, take, get_or, arith, zero, suc}
+use Rattle.std.specs.Prelude.{nat_eq, Some, None}
 use Rattle.std.specs.List.{AllByRecursion, starts_with}
 use Rattle.std.specs.List.Sorted.{IsPartitionedBy, IsPartitionPoint}
 use Rattle.std.specs.Ordering.{nat_cmp, is_lt, ordering_then, ordering_reverse}
@@ -12,8 +12,7 @@ use Rattle.std.specs.declared.cmp.Ordering.TheVariants.{Less, Equal, Greater}
 use Rattle.std.proofs.lemmas.Bool.Decides.{nat_tests}
 use Rattle.dw_derive.specs.Entries.{doc_text}
 use Rattle.dw_derive.proofs.Reading.{begins_with, begins as begins_so}
-use Rattle.dw_tablet.specs.declared.span.Span.{Span}
-use Rattle.dw_tablet.specs.Places.{below, Ascends, AreFrom, IsApart, AgreesAt, covers, gap, onward}
+use Rattle.dw_tablet.specs.Places.{below, Ascends, AreFrom, IsApart, covers, gap, onward}
 use Rattle.dw_tablet.specs.Held.{Held, Agrees}
 use Rattle.dw_tablet.specs.Fronts.{begins, with_front, front_gap, values_front, ValuesStandInFronts}
 use Rattle.dw_tablet.specs.Positions.{field_start}
@@ -23,7 +22,7 @@ use Rattle.dw_tablet.proofs.Joined.{joined_on}
 use Rattle.dw_tablet.proofs.IndexKeys.{index_key, value_key}
 use Rattle.dw_tablet.proofs.Order.{clash, back}
 use Rattle.dw_tablet.proofs.Gap.{gap_is, filter_twice}
-use Rattle.dw_tablet.proofs.Searching.{IsCut, cut, rest_of}
+use Rattle.dw_tablet.proofs.Searching.{cut}
 use Rattle.dw_tablet.proofs.EqualPlaces.{not_below_front}
 
 itself : (n : ℕ) → nat_eq n n ≡ true

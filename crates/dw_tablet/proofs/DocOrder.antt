@@ -1,5 +1,5 @@
 -- The texts of document keys compare as the keys do.
-use Rattle.std.proofs.Common.{◌≡◌, ℕ, zero, suc, ◌<◌, ◌+◌, ◌*◌, ◌/◌, ◌%◌, List, [], ◌∷◌, ◌++◌, length, refl, sym, ap, ◌∙◌, Bool, true, false, not, cond, arith, ◌⊎◌, inl, inr}
+use Rattle.std.proofs.Common.{◌≡◌, ℕ, zero, suc, ◌<◌, ◌+◌, ◌*◌, ◌/◌, ◌%◌, List, [], ◌∷◌, ◌++◌, length, refl, sym, ap, ◌∙◌, Bool, true, not, cond, arith, ◌⊎◌, inl, inr}
 use Rattle.std.specs.Prelude.{◌&&◌, ◌==◌, nat_lt, slice_index}
 use Rattle.std.proofs.lemmas.Bool.{and_parts, cases_lt}
 use Rattle.std.proofs.lemmas.Bool.Decides.{nat_tests}
@@ -9,10 +9,8 @@ use Rattle.hex.specs.Hex.{encode_lower, encode_with, lower_digits}
 use Rattle.dw_key.specs.declared.doc_key.DocKey.{DocKey}
 use Rattle.dw_key.specs.DocKeys.{doc_key_cmp}
 use Rattle.dw_key.specs.KeyCode.{AreBytes}
-use Rattle.dw_key.specs.TypeName.{is_type_name}
 use Rattle.dw_norm.proofs.Orders.{by_parts, below, above, level, ordering_then-assoc}
 use Rattle.dw_event.specs.Names.{lacks_zero}
-use Rattle.dw_derive.specs.UidLists.{IsUid}
 use Rattle.dw_derive.specs.Entries.{zero_joined, doc_text}
 use Rattle.dw_derive.specs.ReaderLaws.{IsDocKey}
 use Rattle.dw_derive.proofs.Reading.{type_lacks}

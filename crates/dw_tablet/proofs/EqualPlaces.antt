@@ -1,6 +1,5 @@
 -- Where the cells of one value stand, by their documents.
-use Rattle.std.proofs.Common.{◌≡◌, ℕ, List, [], ◌∷◌, ◌++◌, refl, sym, ap, subst, ◌∙◌, Bool, true, false, not}
-use Rattle.std.specs.Prelude.{Option, Some, None}
+use Rattle.std.proofs.Common.{◌≡◌, ℕ, List, [], ◌∷◌, ◌++◌, refl, sym, ap, ◌∙◌, true, false, not}
 use Rattle.std.specs.Ordering.{nat_cmp, is_lt, is_le, ordering_then, ordering_reverse}
 use Rattle.std.specs.declared.cmp.Ordering.{Ordering}
 use Rattle.std.specs.declared.cmp.Ordering.TheVariants.{Less, Equal, Greater}
@@ -14,9 +13,8 @@ use Rattle.dw_nest.specs.declared.bound.Bound.{Bound}
 use Rattle.dw_nest.specs.declared.bound.Bound.TheVariants.{Start, From, After}
 use Rattle.dw_nest.specs.Bounds.{meets, is_before}
 use Rattle.dw_derive.specs.Entries.{doc_text}
-use Rattle.dw_derive.specs.ReaderLaws.{IsDocKey}
 use Rattle.dw_tablet.specs.Places.{below}
-use Rattle.dw_tablet.specs.Positions.{field_start, value_start, value_end, entry_place, bound_place}
+use Rattle.dw_tablet.specs.Positions.{value_start, value_end, entry_place, bound_place}
 use Rattle.dw_tablet.specs.Values.{Value}
 use Rattle.dw_tablet.specs.EqualWalks.{BoundFits}
 use Rattle.dw_tablet.proofs.Shards.{same_front}

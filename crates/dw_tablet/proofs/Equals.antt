@@ -1,10 +1,9 @@
 -- The first cell of a walk over one value.
 use Rattle.std.proofs.Common.{◌≡◌, ℕ, List, [], ◌∷◌, ◌++◌, refl, sym, ap, subst, ◌∙◌, Bool, true, false, not, cond, ◌&&◌, ◌||◌, map as list_map, ◌⊎◌, inl, inr}
-use Rattle.std.specs.Prelude.{filter_map, slice_get, Option, Some, None, Contains, IsTrue, if◌then◌else◌}
+use Rattle.std.specs.Prelude.{filter_map, slice_get, Option, Some, None, if◌then◌else◌}
 use Rattle.std.specs.List.{AllByRecursion, cons_option}
-use Rattle.std.specs.Ordering.{nat_cmp, is_eq, is_lt}
-use Rattle.std.specs.Cmp.Lexicographic.{slice_cmp, bytes_decides}
-use Rattle.std.proofs.lemmas.Bool.{and_parts, not_from_true, not_from_false, not-true}
+use Rattle.std.specs.Ordering.{is_eq, is_lt}
+use Rattle.std.specs.Cmp.Lexicographic.{bytes_decides}
 use Rattle.dw_base.proofs.Members.{StandsIn, from_stands}
 use Rattle.dw_key.specs.declared.doc_key.DocKey.{DocKey}
 use Rattle.dw_key.specs.DocKeys.{doc_key_cmp}
@@ -12,13 +11,13 @@ use Rattle.dw_key.specs.KeyCode.{escaped, part_code}
 use Rattle.dw_event.specs.declared.types.Types.{Types}
 use Rattle.dw_nest.specs.declared.bound.Bound.{Bound}
 use Rattle.dw_nest.specs.declared.bound.Bound.TheVariants.{Start, From, After}
-use Rattle.dw_nest.specs.Bounds.{meets, rest, is_before, has}
+use Rattle.dw_nest.specs.Bounds.{meets, is_before, has}
 use Rattle.dw_derive.specs.Entries.{zero_joined, doc_text, field_index}
-use Rattle.dw_tablet.specs.Places.{below, Ascends, IsContent, AreFrom, AreBefore, between, gap, shard_start, shard_end}
-use Rattle.dw_tablet.specs.Positions.{field_start, value_start, value_end, bound_place}
+use Rattle.dw_tablet.specs.Places.{below, Ascends, AreFrom, AreBefore, between, shard_start, shard_end}
+use Rattle.dw_tablet.specs.Positions.{value_start, value_end, bound_place}
 use Rattle.dw_tablet.specs.Held.{Held, Agrees}
-use Rattle.dw_tablet.specs.Cursors.{known_upto, known_keys}
-use Rattle.dw_tablet.specs.Values.{Value, value_at, is_only, is_of, kept_if, shown_at, is_of_doc, some_says, docs_of, AreDocs}
+use Rattle.dw_tablet.specs.Cursors.{known_upto}
+use Rattle.dw_tablet.specs.Values.{Value, value_at, is_only, is_of, kept_if, is_of_doc, some_says, docs_of}
 use Rattle.dw_tablet.specs.EqualWalks.{BoundFits, EqualWalk, EqualWalksAreOrdered, of_value, walked, walked_known}
 use Rattle.dw_tablet.proofs.Order.{clash, upto, below_upto, past}
 use Rattle.dw_tablet.proofs.Shards.{same_front}
@@ -26,7 +25,7 @@ use Rattle.dw_tablet.proofs.Joined.{joined_on}
 use Rattle.dw_tablet.proofs.Shown.{known_end}
 use Rattle.dw_tablet.proofs.IndexKeys.{index_key, ValueKey, value_key, value_then, field_then}
 use Rattle.dw_tablet.proofs.EqualPlaces.{before_end, by_bound, in_order, not_below_front}
-use Rattle.dw_tablet.proofs.LeastDocs.{same_doc, itself, not_before_itself, least_first, none_meets, SaidBy, said_by}
+use Rattle.dw_tablet.proofs.LeastDocs.{same_doc, itself, not_before_itself, least_first, none_meets, said_by}
 
 or_right : (a b : Bool) → b ≡ true → (a || b) ≡ true
 or_right true b i = refl

@@ -2,7 +2,6 @@
 use Rattle.std.proofs.Common.{◌≡◌, ℕ, zero, suc, ◌<◌, List, [], ◌∷◌, ◌++◌, refl, sym, ap, subst, ◌∙◌, Bool, true, false, arith}
 use Rattle.std.specs.Prelude.{◌&&◌, nat_eq, nat_le, Option, Some, None, if◌then◌else◌}
 use Rattle.std.specs.Option.{option_map_or}
-use Rattle.std.proofs.lemmas.Bool.{and_parts}
 use Rattle.std.proofs.lemmas.Map.Lookups.{exact_bytes}
 use Rattle.std.specs.Ordering.{nat_cmp, is_lt, ordering_then}
 use Rattle.std.specs.declared.cmp.Ordering.{Ordering}
@@ -19,12 +18,11 @@ use Rattle.dw_derive.specs.Entries.{zero_joined, doc_text, field_index}
 use Rattle.dw_derive.specs.Decoded.{key_from}
 use Rattle.dw_derive.specs.Readers.{EventReading, IndexReading, event_reading, index_reading}
 use Rattle.dw_derive.specs.ReaderLaws.{IsDocKey}
-use Rattle.dw_derive.proofs.Spelled.{key_spelled, IndexSpelled, index_spelled}
-use Rattle.dw_tablet.specs.declared.said.Said.{Said}
-use Rattle.dw_tablet.specs.declared.said.Said.TheVariants.{OfEvent, OfIndex, Nothing}
-use Rattle.dw_tablet.specs.Said.{event_said, index_said, key_said, visible_said, said_of}
+use Rattle.dw_derive.proofs.Spelled.{key_spelled, index_spelled}
+use Rattle.dw_tablet.specs.declared.said.Said.TheVariants.{Nothing}
+use Rattle.dw_tablet.specs.Said.{event_said, index_said, visible_said, said_of}
 use Rattle.dw_tablet.specs.Places.{below, shard_start, shard_end}
-use Rattle.dw_tablet.specs.Positions.{field_front, field_start, value_start}
+use Rattle.dw_tablet.specs.Positions.{field_start, value_start}
 use Rattle.dw_tablet.specs.Values.{Value, value_if, value_at}
 use Rattle.dw_tablet.proofs.Order.{clash}
 use Rattle.dw_tablet.proofs.Joined.{joined_on, doc_escaped}

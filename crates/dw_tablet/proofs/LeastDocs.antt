@@ -1,7 +1,7 @@
 -- The first of some ascending keys by their documents.
-use Rattle.std.proofs.Common.{◌≡◌, ℕ, List, [], ◌∷◌, refl, sym, ap, subst, ◌∙◌, Bool, true, false, not, cond, ◌&&◌, ◌||◌}
-use Rattle.std.specs.Prelude.{filter, filter_map, slice_get, Option, Some, None}
-use Rattle.std.specs.List.{AllByRecursion, cons_option, list_any}
+use Rattle.std.proofs.Common.{◌≡◌, ℕ, List, [], ◌∷◌, refl, sym, ap, subst, ◌∙◌, Bool, true, false, cond, ◌&&◌, ◌||◌}
+use Rattle.std.specs.Prelude.{slice_get, Option, Some, None}
+use Rattle.std.specs.List.{AllByRecursion}
 use Rattle.std.specs.Ordering.{is_eq, is_lt}
 use Rattle.std.specs.Cmp.{tied_itself}
 use Rattle.std.specs.declared.cmp.Ordering.{Ordering}
@@ -11,7 +11,6 @@ use Rattle.dw_key.specs.DocKeys.{doc_key_cmp}
 use Rattle.dw_key.proofs.DocKeyLaws.{doc_keys_total, doc_keys_exact}
 use Rattle.dw_nest.specs.declared.bound.Bound.{Bound}
 use Rattle.dw_nest.specs.Bounds.{Ascends as DocsAscend, meets, rest, has, is_before}
-use Rattle.dw_tablet.specs.Places.{below, Ascends, AreFrom, AreBefore, between}
 use Rattle.dw_tablet.specs.Values.{Value, is_of_doc, some_says}
 use Rattle.dw_tablet.proofs.Order.{clash}
 

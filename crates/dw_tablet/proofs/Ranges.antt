@@ -1,5 +1,5 @@
 -- Places of a field and of a value lie within its range.
-use Rattle.std.proofs.Common.{◌≡◌, ℕ, List, [], ◌∷◌, ◌++◌, refl, sym, ap, ◌∙◌, subst, Bool, true, false, cond, zero, suc, arith}
+use Rattle.std.proofs.Common.{◌≡◌, ℕ, List, [], ◌∷◌, ◌++◌, refl, sym, ap, ◌∙◌, subst, Bool, true, false, cond, arith}
 use Rattle.std.specs.Prelude.{Option, Some, None, nat_lt, ◌==◌}
 use Rattle.std.proofs.lemmas.Bool.Decides.{nat_tests}
 use Rattle.std.specs.declared.cmp.Ordering.{Ordering}
@@ -11,7 +11,7 @@ use Rattle.dw_nest.specs.declared.bound.Bound.{Bound}
 use Rattle.dw_nest.specs.declared.bound.Bound.TheVariants.{Start, From, After}
 use Rattle.dw_derive.specs.Entries.{doc_text}
 use Rattle.dw_tablet.specs.Places.{below}
-use Rattle.dw_tablet.specs.Positions.{field_front, field_start, field_end, value_start, value_end, entry_place, bound_place, cursor_end}
+use Rattle.dw_tablet.specs.Positions.{field_front, field_start, field_end, value_start, value_end, bound_place, cursor_end}
 use Rattle.dw_tablet.proofs.Shards.{same_front}
 use Rattle.dw_tablet.proofs.Joined.{joined_on}
 

@@ -2,7 +2,7 @@
 use Rattle.std.proofs.Common.{◌≡◌, ℕ, ◌<◌, ◌≤◌, List, [], ◌∷◌, ◌++◌, refl, sym, ap, ◌∙◌, Bool, true, false, not, cond, ◌&&◌, length, take, drop, get_or, arith, zero, suc}
 use Rattle.std.specs.Prelude.{filter, ◌-◌}
 use Rattle.std.proofs.lemmas.List.{take_all, length-drop}
-use Rattle.std.specs.List.{AllByRecursion, AllWithin}
+use Rattle.std.specs.List.{AllByRecursion}
 use Rattle.std.specs.List.Sorted.{IsPartitionedBy, IsPartitionPoint}
 use Rattle.dw_tablet.specs.Places.{below, Ascends, onward, between, with_run}
 use Rattle.dw_tablet.proofs.Order.{past, clash}

@@ -1,14 +1,13 @@
 -- What a cursor shows of each content that agrees with its tablet.
-use Rattle.std.proofs.Common.{◌≡◌, ℕ, List, [], ◌∷◌, ◌++◌, refl, sym, ap, ◌∙◌, subst, Bool, true, false, not, cond, ◌&&◌, drop}
+use Rattle.std.proofs.Common.{◌≡◌, ℕ, List, [], ◌∷◌, ◌++◌, refl, sym, ap, ◌∙◌, Bool, true, false, not, cond, ◌&&◌, drop}
 use Rattle.std.specs.Prelude.{filter, filter_map, slice_get, Option, Some, None, is_some, IfSome}
 use Rattle.std.specs.List.{AllByRecursion, cons_option}
 use Rattle.std.proofs.lemmas.Bool.{cond_both, and_parts}
-use Rattle.std.proofs.lemmas.List.Elements.{filter_map-append}
 use Rattle.dw_tablet.specs.Places.{below, Ascends, IsApart, IsGap, between, onward, gap}
 use Rattle.dw_tablet.specs.Held.{Held, Agrees}
 use Rattle.dw_tablet.specs.Values.{Value}
 use Rattle.dw_tablet.specs.Cursors.{known_upto, known_keys, gap_before, from_first, says, FirstIs}
-use Rattle.dw_tablet.proofs.Order.{not_itself, back, past, below_upto, upto, upto_below, clash}
+use Rattle.dw_tablet.proofs.Order.{not_itself, back, below_upto, upto, clash}
 use Rattle.dw_tablet.proofs.Gap.{filter_twice, same_between, gap_is}
 use Rattle.dw_tablet.proofs.Cut.{filter_up, before_next}
 use Rattle.dw_tablet.proofs.Searching.{in_both}

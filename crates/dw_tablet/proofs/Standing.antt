@@ -1,5 +1,5 @@
 -- Where the cells of a field and of a document stand.
-use Rattle.std.proofs.Common.{◌≡◌, ℕ, List, [], ◌∷◌, ◌++◌, refl, sym, ap, subst, ◌∙◌, Bool, true, false, not}
+use Rattle.std.proofs.Common.{◌≡◌, ℕ, List, [], ◌∷◌, ◌++◌, refl, sym, ap, ◌∙◌, Bool, true, false}
 use Rattle.std.specs.Prelude.{Option, Some, None, if◌then◌else◌}
 use Rattle.std.specs.Option.{option_map_or}
 use Rattle.std.specs.Ordering.{nat_cmp, is_lt, is_gt, ordering_then}
@@ -7,7 +7,6 @@ use Rattle.std.specs.declared.cmp.Ordering.{Ordering}
 use Rattle.std.specs.declared.cmp.Ordering.TheVariants.{Less, Equal, Greater}
 use Rattle.std.specs.Cmp.Lexicographic.{slice_cmp}
 use Rattle.dw_key.specs.declared.key.Key.{Key}
-use Rattle.dw_key.specs.DocKeys.{doc_key_cmp}
 use Rattle.dw_key.specs.KeyCode.{escaped, part_code}
 use Rattle.dw_key.proofs.Escapes.{part_code-then, slice_cmp-parts}
 use Rattle.dw_vis.specs.Test.{is_vis}
@@ -16,13 +15,12 @@ use Rattle.dw_derive.specs.Decoded.{key_from}
 use Rattle.dw_derive.specs.Readers.{EventReading, IndexReading, event_reading, index_reading}
 use Rattle.dw_derive.proofs.Spelled.{key_spelled, event_spelled}
 use Rattle.dw_tablet.specs.declared.said.EventSaid.{EventSaid}
-use Rattle.dw_tablet.specs.declared.said.Said.{Said}
-use Rattle.dw_tablet.specs.declared.said.Said.TheVariants.{OfEvent, OfIndex, Nothing}
+use Rattle.dw_tablet.specs.declared.said.Said.TheVariants.{OfEvent, Nothing}
 use Rattle.dw_tablet.specs.Said.{event_said, index_said, visible_said, said_of}
 use Rattle.dw_tablet.specs.Places.{below, shard_start, shard_end}
-use Rattle.dw_tablet.specs.Positions.{field_front, field_start, field_end, document_front}
+use Rattle.dw_tablet.specs.Positions.{field_start, field_end, document_front}
 use Rattle.dw_tablet.specs.Documents.{document_start, document_end}
-use Rattle.dw_tablet.specs.Orders.{IsOfShard, value_cmp, ValuesStand, ValuesStandInFields, DocumentStands, CellsStandInDocuments}
+use Rattle.dw_tablet.specs.Orders.{IsOfShard, value_cmp, ValuesStand, ValuesStandInFields, CellsStandInDocuments}
 use Rattle.dw_tablet.specs.Values.{Value, value_at}
 use Rattle.dw_tablet.proofs.Shards.{same_front}
 use Rattle.dw_tablet.proofs.Joined.{joined_on, doc_escaped}

@@ -1,7 +1,6 @@
 -- Where a cursor stands, and what it shows.
-use Rattle.std.specs.Prelude.{◌≡◌, ℕ, Bool, true, false, cond, List, [], ◌∷◌, Option, Some, None, is_some}
-use Rattle.dw_tablet.specs.Places.{below, between, covered_upto, gap}
-use Rattle.dw_tablet.specs.Positions.{field_end}
+use Rattle.std.specs.Prelude.{◌≡◌, ℕ, Bool, cond, List, [], ◌∷◌, Option, Some, None, is_some}
+use Rattle.dw_tablet.specs.Places.{below, between, gap}
 use Rattle.dw_tablet.specs.Held.{Held}
 use Rattle.dw_tablet.specs.Values.{Value}
 use Rattle.dw_tablet.specs.declared.ahead.Gap.{Gap}

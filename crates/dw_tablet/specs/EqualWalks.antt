@@ -1,5 +1,5 @@
 -- A walk over the cells of one value, by their documents.
-use Rattle.std.specs.Prelude.{◌≡◌, ℕ, List, [], IsTrue, filter_map, slice_get, Option, Some, None, Contains}
+use Rattle.std.specs.Prelude.{◌≡◌, ℕ, List, [], IsTrue, filter_map, slice_get, Option, Some, Contains}
 use Rattle.dw_key.specs.declared.doc_key.DocKey.{DocKey}
 use Rattle.dw_event.specs.declared.types.Types.{Types}
 use Rattle.dw_nest.specs.declared.bound.Bound.{Bound}

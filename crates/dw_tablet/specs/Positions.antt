@@ -1,7 +1,6 @@
 -- Where walks begin and end: places of leaves and of documents.
 use Rattle.std.specs.Prelude.{ℕ, Bool, List, [], ◌∷◌, ◌++◌, cond, Option, Some, None}
 use Rattle.dw_key.specs.KeyCode.{escaped, part_code}
-use Rattle.dw_key.specs.declared.doc_key.DocKey.{DocKey}
 use Rattle.dw_nest.specs.declared.bound.Bound.{Bound}
 use Rattle.dw_nest.specs.declared.bound.Bound.TheVariants.{Start, From, After}
 use Rattle.dw_derive.specs.Entries.{zero_joined, doc_text, field_index}

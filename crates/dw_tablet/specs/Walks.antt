@@ -1,5 +1,5 @@
 -- What a cursor has still to show.
-use Rattle.std.specs.Prelude.{◌≡◌, ℕ, Bool, true, false, not, cond, List, [], ◌∷◌, Option, Some, None, filter_map}
+use Rattle.std.specs.Prelude.{◌≡◌, ℕ, Bool, true, false, not, cond, List, [], ◌∷◌, Option, None, filter_map}
 use Rattle.std.specs.Option.{option_map}
 use Rattle.dw_key.specs.declared.doc_key.DocKey.{DocKey}
 use Rattle.dw_tablet.specs.declared.cursor.Cursor.{Cursor}

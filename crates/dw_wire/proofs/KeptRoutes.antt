@@ -1,17 +1,15 @@
 -- The request of a message by HTTP, where it is one, is well formed.
-use Rattle.std.proofs.Common.{ℕ, List, [], ◌∷◌, length, nat_le, codes, Option, None, Some, Result, Err, IfOk}
+use Rattle.std.proofs.Common.{ℕ, List, [], ◌∷◌, length, nat_le, codes, Option, Err, IfOk}
 use Rattle.serde_json.specs.Data.{Data}
 use Rattle.dw_base.specs.Numerals.{numeral_up_to}
 use Rattle.dw_rows.specs.Values.{has_only}
 use Rattle.dw_groups.specs.Batches.{rows_of, rows_batch}
 use Rattle.dw_groups.proofs.KeptBatches.{rows_known}
-use Rattle.dw_wire.specs.declared.request.Request.{Request}
-use Rattle.dw_wire.specs.declared.request.Why.{Why}
 use Rattle.dw_wire.specs.declared.request.Why.TheVariants as why
 use Rattle.dw_wire.specs.declared.route.Route.{Route}
 use Rattle.dw_wire.specs.declared.route.Route.TheVariants as route
-use Rattle.dw_wire.specs.ReadLine.{needed, in_text, define_members, define_in, grant_members, grant_in, ingest_with, records_in, create_members, create_in, page_with, close_with}
-use Rattle.dw_wire.specs.ReadRoute.{define_body, grant_body, records_body, create_body, table_body, page_path, close_path, read_route}
+use Rattle.dw_wire.specs.ReadLine.{define_members, grant_members, create_members, create_in, page_with, close_with}
+use Rattle.dw_wire.specs.ReadRoute.{define_body, grant_body, records_body, create_body, table_body, read_route}
 use Rattle.dw_wire.specs.WellFormed.{IsWellFormed}
 use Rattle.dw_wire.proofs.KeptRequests.{Kept, refused, either, with_form, text_kept, define_right, grant_right, records_right, batch_right, create_in_right, page_right, close_right}
 

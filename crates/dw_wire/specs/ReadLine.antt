@@ -1,6 +1,5 @@
 -- What request a line is, or why it is none.
 use Rattle.std.specs.Prelude.{ℕ, ◌&&◌, Bool, true, nat_le, List, [], ◌∷◌, length, Option, Some, None, Result, Ok, Err, option_map, option_and_then, is_some, codes, if◌then◌else◌}
-use Rattle.std.specs.List.{list_all}
 use Rattle.std.specs.Str.{bytes_eq}
 use Rattle.std.specs.Ordering.{nat_cmp, is_le}
 use Rattle.std.specs.Cmp.Lexicographic.{slice_cmp}
@@ -9,7 +8,6 @@ use Rattle.serde_json.specs.Find.{get, as_bool, as_str, as_number, as_array}
 use Rattle.dw_base.specs.Days.{day_digits}
 use Rattle.dw_key.specs.TypeName.{is_type_name}
 use Rattle.dw_vis.specs.Names.{with_name}
-use Rattle.dw_event.specs.Names.{lacks_zero}
 use Rattle.dw_event.specs.declared.records.Record.{Record}
 use Rattle.dw_event.specs.declared.days.Days.{Days}
 use Rattle.dw_event.specs.declared.types.Types.{Types}

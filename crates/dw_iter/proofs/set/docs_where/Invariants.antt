@@ -1,4 +1,4 @@
-use Rattle.std.proofs.Common.{◌≡◌, List, ℕ, ◌++◌, drop}
+use Rattle.std.proofs.Common.{◌≡◌, ℕ, ◌++◌, drop}
 use Rattle.std.specs.Prelude.{filter_map}
 use Rattle.dw_eval.specs.Meeting.{meets}
 use Rattle.dw_tablet.specs.Values.{shown_by}

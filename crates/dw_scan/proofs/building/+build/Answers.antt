@@ -1,4 +1,4 @@
-use Rattle.std.proofs.Common.{◌≡◌, ◌++◌, ◌∷◌, [], List, drop, sym, ap, subst, ◌∙◌, add-one}
+use Rattle.std.proofs.Common.{◌≡◌, ◌++◌, ◌∷◌, [], List, drop, sym, subst, ◌∙◌, add-one}
 use Rattle.dw_nest.specs.declared.tree.Tree.{Tree}
 use Rattle.dw_iter.specs.declared.leaf.Leaf.{Leaf}
 use Rattle.dw_scan.specs.Parts.{AreTreesOf}

@@ -1,7 +1,5 @@
 use Rattle.std.proofs.Common.{◌≡◌, ◌≤◌, Some, None, ap, sym, ◌∙◌, length, arith}
 use Rattle.std.proofs.lemmas.Result.{IfOk-weaker}
-use Rattle.dw_scan.specs.Answers.{left}
-use Rattle.dw_scan.specs.Batches.{IsOfWorld, IsBatch}
 use Rattle.dw_scan.specs.Worlds.{content_of}
 use Rattle.dw_scan.specs.WorldAnswers.{candidates_in}
 use Rattle.dw_scan.proofs.WorldBatches.{built_enumerable, is_shard, to_batch}

@@ -1,4 +1,4 @@
-use Rattle.std.proofs.Common.{sym, ◌∙◌, rules}
+use Rattle.std.proofs.Common.{◌∙◌, rules}
 use Rattle.dw_tablet.specs.Values.{shown_by}
 use Rattle.dw_tablet.proofs.Firsts.{first_says, none_stands}
 use Rattle.dw_tablet.proofs.Searching.{rest_of}

@@ -1,7 +1,7 @@
-use Rattle.std.proofs.Common.{◌≡◌, List, ℕ, sym, ap, ◌∙◌, subst, take, drop, length, rules}
+use Rattle.std.proofs.Common.{◌≡◌, ℕ, sym, ap, ◌∙◌, subst, take, drop, length, rules}
 use Rattle.std.specs.Prelude.{◌-◌}
 use Rattle.std.proofs.lemmas.List.Sorted.{IsPartitionPoint-from_clause}
-use Rattle.dw_tablet.specs.Places.{Ascends, AreFrom, below, onward}
+use Rattle.dw_tablet.specs.Places.{Ascends, AreFrom, onward}
 use Rattle.dw_tablet.specs.Fronts.{begins, with_front}
 use Rattle.dw_tablet.proofs.Cut.{filter_up}
 use Rattle.dw_tablet.proofs.Searching.{rest_of}

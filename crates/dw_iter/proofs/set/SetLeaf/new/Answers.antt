@@ -1,9 +1,7 @@
-use Rattle.std.proofs.Common.{◌≡◌, ◌∙◌, ap, rules, None, Some}
-use Rattle.std.specs.Prelude.{filter_map}
-use Rattle.dw_eval.specs.Meeting.{meets, field_of, front_of}
+use Rattle.std.proofs.Common.{◌≡◌, ◌∙◌, rules, None, Some}
+use Rattle.dw_eval.specs.Meeting.{field_of, front_of}
 use Rattle.dw_tablet.specs.Fronts.{values_front, with_front}
 use Rattle.dw_tablet.specs.Values.{shown_at, shown_by}
-use Rattle.dw_iter.specs.LeafLists.{doc_where}
 use Rattle.dw_iter.proofs.SetDocs.{set_docs}
 use Rattle.dw_iter.proofs.set.SetLeaf.new.Goals as goal
 

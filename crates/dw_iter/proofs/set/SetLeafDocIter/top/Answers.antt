@@ -1,6 +1,4 @@
-use Rattle.std.proofs.Common.{◌≡◌, ◌∙◌, sym, Some, None}
-use Rattle.std.specs.Prelude.{slice_get}
-use Rattle.dw_nest.specs.Bounds.{rest}
+use Rattle.std.proofs.Common.{◌≡◌, ◌∙◌, sym}
 use Rattle.dw_iter.proofs.SetTops.{left_in, left_met, left_none}
 use Rattle.dw_iter.proofs.set.SetLeafDocIter.top.Goals as goal
 

@@ -1,7 +1,7 @@
-use Rattle.std.proofs.Common.{◌≡◌, ◌∷◌, ◌++◌, [], sym, ap, ◌∙◌, subst, true, drop, rules}
+use Rattle.std.proofs.Common.{◌≡◌, ◌∷◌, ◌++◌, [], sym, ◌∙◌, drop, rules}
 use Rattle.std.specs.Prelude.{filter_map}
 use Rattle.std.specs.Option.{option_map}
-use Rattle.dw_tablet.specs.Places.{below, between}
+use Rattle.dw_tablet.specs.Places.{between}
 use Rattle.dw_tablet.specs.Values.{shown_by}
 use Rattle.dw_tablet.specs.Walks.{place_at, end_at, left}
 use Rattle.dw_tablet.specs.Cursors.{from_first, known_keys}

@@ -1,5 +1,4 @@
-use Rattle.std.proofs.Common.{sym, ap, ◌∙◌, rules}
-use Rattle.dw_tablet.specs.Places.{gap}
+use Rattle.std.proofs.Common.{◌∙◌, rules}
 use Rattle.dw_tablet.proofs.Gap.{gap_found}
 use Rattle.dw_tablet.proofs.tablet.Tablet.front_gap.Goals as goal
 
