@@ -10,8 +10,10 @@ use dw_base::{Listed, Text};
 use dw_dict::{Dict, FieldRule};
 use dw_eval::{NQuery, NView, bind, satisfies};
 use dw_event::{Cells, Event, EventCell, Types, View, view};
+use dw_iter::EqualLeaf;
 use dw_jexl::parse;
 use dw_key::{DType, DocKey};
+use dw_nest::{DocIter, Top};
 use dw_norm::Kind;
 use dw_outside::MemKeeper;
 use dw_plan::{anchored, bound_are_ruled};
@@ -428,6 +430,37 @@ fn a_batch_reads_its_candidates_alone(rt: HostRuntime) -> Result<(), Fail> {
     for case in NESTED {
         check_nested(&rt, alloc, &tablet, case)?;
     }
+    Ok(())
+}
+
+/// The uids that an iterator goes through.
+fn uids_of<I: DocIter>(alloc: Global, leaf: &mut I) -> Result<String, AllocError> {
+    let mut out = String::new(alloc);
+    for _key in 0..4 {
+        if let Top::Key(key) = leaf.top() {
+            out.push(char::from(b'0'.wrapping_add(key.uid[31])))?;
+            leaf.next();
+        }
+    }
+    Ok(out)
+}
+
+/// Those of the documents that show C with the value 3 to one who holds the names.
+fn uids_seen(alloc: Global, names: &str) -> Result<String, Fail> {
+    let tablet = nested_tablet(alloc)?;
+    let auths = auths_of(alloc, names)?;
+    let mut leaf = EqualLeaf::new(&tablet, "C", "3", &Types::All, &auths, 1);
+    let uids = uids_of(alloc, &mut leaf)?;
+    Ok(uids)
+}
+
+#[test]
+fn an_iterator_goes_through_what_is_seen(rt: HostRuntime) -> Result<(), Fail> {
+    let alloc = rt.alloc();
+    let some = uids_seen(alloc, "")?;
+    assert_eq!(rt; some.as_str(), "23");
+    let all = uids_seen(alloc, "S")?;
+    assert_eq!(rt; all.as_str(), "123");
     Ok(())
 }
 

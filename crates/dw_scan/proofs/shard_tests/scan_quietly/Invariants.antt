@@ -1,4 +1,4 @@
 use Rattle.dw_scan.proofs.shard_tests.scan_quietly.Given as goal
 
 abbrev pub ghosts-scan_counted : goal.ghosts-scan_counted
-ghosts-scan_counted g a = record { name = a.blank.name; parts = a.blank.parts }
+ghosts-scan_counted a = record { name = a.blank.name; parts = a.blank.parts }
