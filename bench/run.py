@@ -83,6 +83,16 @@ PROGRAMS = {
 }
 
 
+def measured(crate, size):
+    """The lines that the program wrote for a size."""
+    ran = subprocess.run(["rt", "run", "--jobs", "1", "--", str(size)],
+                         cwd=crate, stdout=subprocess.PIPE, text=True)
+    lines = re.findall(r"^measure: (.*)", ran.stdout, re.M)
+    if ran.returncode or not lines:
+        sys.exit("no measure of %d" % size)
+    return [line.split() for line in lines]
+
+
 def main():
     if len(sys.argv) < 2 or sys.argv[1] not in PROGRAMS:
         sys.exit(__doc__)
@@ -90,15 +100,12 @@ def main():
     sizes = [int(word) for word in sys.argv[2:]] or [1_000, 10_000, 100_000]
     with tempfile.TemporaryDirectory() as folder:
         crate = make(folder, sys.argv[1])
-        print(heading, flush=True)
-        for size in sizes:
-            ran = subprocess.run(["rt", "run", "--jobs", "1", "--", str(size)],
-                                 cwd=crate, stdout=subprocess.PIPE, text=True)
-            lines = re.findall(r"^measure: (.*)", ran.stdout, re.M)
-            if not lines:
-                sys.exit("no measure of %d" % size)
-            for line in lines:
-                show(line.split())
+        for place, size in enumerate(sizes):
+            rows = measured(crate, size)
+            if place == 0:
+                print(heading)
+            for row in rows:
+                show(row)
 
 
 if __name__ == "__main__":
