@@ -75,20 +75,20 @@ def show_keepers(words):
              rate(cells, runs), rate(cells, whole)))
 
 
-# For each program the heading, and what prints a line that it wrote.
+# For each program the heading, how many lines it writes, and what prints one.
 PROGRAMS = {
-    "ingest": ("events  events/s  cells  bytes/cell  held bytes/cell  held/bytes", show_ingest),
+    "ingest": ("events  events/s  cells  bytes/cell  held bytes/cell  held/bytes", 1, show_ingest),
     "keepers": ("keeper   cells  cells/apply  applies/s  cells/s  read in runs/s  read in one scan/s",
-                show_keepers),
+                6, show_keepers),
 }
 
 
-def measured(crate, size):
-    """The lines that the program wrote for a size."""
+def measured(crate, size, count):
+    """The words of the lines that the program wrote for a size, if it wrote so many."""
     ran = subprocess.run(["rt", "run", "--jobs", "1", "--", str(size)],
                          cwd=crate, stdout=subprocess.PIPE, text=True)
     lines = re.findall(r"^measure: (.*)", ran.stdout, re.M)
-    if ran.returncode or not lines:
+    if ran.returncode or len(lines) != count:
         sys.exit("no measure of %d" % size)
     return [line.split() for line in lines]
 
@@ -96,12 +96,12 @@ def measured(crate, size):
 def main():
     if len(sys.argv) < 2 or sys.argv[1] not in PROGRAMS:
         sys.exit(__doc__)
-    heading, show = PROGRAMS[sys.argv[1]]
+    heading, count, show = PROGRAMS[sys.argv[1]]
     sizes = [int(word) for word in sys.argv[2:]] or [1_000, 10_000, 100_000]
     with tempfile.TemporaryDirectory() as folder:
         crate = make(folder, sys.argv[1])
         for place, size in enumerate(sizes):
-            rows = measured(crate, size)
+            rows = measured(crate, size, count)
             if place == 0:
                 print(heading)
             for row in rows:
