@@ -1,4 +1,5 @@
 pub mod Results
+pub mod Rising
 pub mod Requests
 pub mod Sessions
 pub mod Cutting

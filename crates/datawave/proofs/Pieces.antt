@@ -2,8 +2,10 @@
 use Rattle.std.proofs.Common.{◌≡◌, ◌++◌, ◌∷◌, [], ℕ, Bool, true, false, cond, nat_le, length, List, Option, Some, None, refl, sym, ap, ◌∙◌, subst, append_assoc, append-nil}
 use Rattle.dw_wire.specs.ReadLine.{max_line}
 use Rattle.datawave.specs.Lines.{kept, lines, last_line, whole_lines, whole_lines_after, rest_after}
-use Rattle.dw_desk.specs.State.{State, start}
+use Rattle.dw_derive.specs.World.{World}
+use Rattle.dw_desk.specs.declared.desk.Desk.{Desk}
 use Rattle.dw_desk.specs.Session.{Digest, Asked}
+use Rattle.datawave.specs.Outside.{Outside}
 use Rattle.datawave.specs.Exchange.{RequestsPut, RequestsLack}
 use Rattle.datawave.proofs.Cutting.{whole_then, rest_then}
 use Rattle.datawave.proofs.Sessions.{lack_more, lack_all}
@@ -43,27 +45,32 @@ walk_line Taken Taken' front piece line empty rest text more x cut left takes e 
 abbrev pub Grows : (List (List ℕ) → List Asked) → Type 0
 Grows whole = (xs ys : List (List ℕ)) → (more : List Asked) × (whole (xs ++ ys) ≡ whole xs ++ more)
 
-grown : (whole : List (List ℕ) → List Asked) (grows : Grows whole) (digest : Digest) (out after : Option (List ℕ)) (all xs ys : List (List ℕ)) → all ≡ xs ++ ys
-    → RequestsLack digest start out (whole xs) after → RequestsLack digest start out (whole all) after
-grown whole grows digest out after all xs ys e lack =
+grown : (whole : List (List ℕ) → List Asked) (grows : Grows whole) (digest : Digest) (w : World) (before after : Outside) (d : Desk) (all xs ys : List (List ℕ)) → all ≡ xs ++ ys
+    → RequestsLack digest w before (whole xs) d after → RequestsLack digest w before (whole all) d after
+grown whole grows digest w before after d all xs ys e lack =
     let g = grows xs ys in
-    subst (λ (rs : List Asked). RequestsLack digest start out rs after) (sym (ap whole e ∙ g.1)) (lack_more digest start out after (whole xs) g.0 lack)
+    subst (λ (rs : List Asked). RequestsLack digest w before rs d after) (sym (ap whole e ∙ g.1)) (lack_more digest w before after d (whole xs) g.0 lack)
+
+-- memory was wanting for more lines
+pub stopped : (whole : List (List ℕ) → List Asked) (grows : Grows whole) (digest : Digest) (w : World) (before after : Outside) (d : Desk) (xs ys : List (List ℕ))
+    → RequestsPut digest w before (whole xs) d after → RequestsLack digest w before (whole (xs ++ ys)) d after
+stopped whole grows digest w before after d xs ys puts = grown whole grows digest w before after d (xs ++ ys) xs ys refl (lack_all digest w before after d (whole xs) puts)
 
 -- the answer to a line broke off
-pub walk_broken : (whole : List (List ℕ) → List Asked) (grows : Grows whole) (digest : Digest) (out after : Option (List ℕ))
+pub walk_broken : (whole : List (List ℕ) → List Asked) (grows : Grows whole) (digest : Digest) (w : World) (before after : Outside) (d : Desk)
     → (Taken : List (List ℕ) → Type 0) (front piece : List ℕ) (line : Option (List ℕ)) (rest text more : List ℕ) (x : Walk Taken front piece line rest)
     → whole_lines_after x.here rest ≡ (x.here ++ text) ∷ whole_lines_after [] more
-    → RequestsLack digest start out (whole (x.done ++ (x.here ++ text) ∷ [])) after → RequestsLack digest start out (whole (whole_lines (front ++ piece))) after
-walk_broken whole grows digest out after Taken front piece line rest text more x cut lacks =
-    grown whole grows digest out after (whole_lines (front ++ piece)) (x.done ++ (x.here ++ text) ∷ []) (whole_lines_after [] more)
+    → RequestsLack digest w before (whole (x.done ++ (x.here ++ text) ∷ [])) d after → RequestsLack digest w before (whole (whole_lines (front ++ piece))) d after
+walk_broken whole grows digest w before after d Taken front piece line rest text more x cut lacks =
+    grown whole grows digest w before after d (whole_lines (front ++ piece)) (x.done ++ (x.here ++ text) ∷ []) (whole_lines_after [] more)
     (x.cut ∙ ap (λ ls. x.done ++ ls) cut ∙ sym (append_assoc x.done ((x.here ++ text) ∷ []) (whole_lines_after [] more))) lacks
 
 -- memory was wanting for what is kept
-pub walk_stopped : (whole : List (List ℕ) → List Asked) (grows : Grows whole) (digest : Digest) (out after : Option (List ℕ)) (w : State)
+pub walk_stopped : (whole : List (List ℕ) → List Asked) (grows : Grows whole) (digest : Digest) (w : World) (before after : Outside) (d : Desk)
     → (Taken : List (List ℕ) → Type 0) (front piece : List ℕ) (line : Option (List ℕ)) (rest : List ℕ) (x : Walk Taken front piece line rest)
-    → RequestsPut digest start out (whole x.done) w after → RequestsLack digest start out (whole (whole_lines (front ++ piece))) after
-walk_stopped whole grows digest out after w Taken front piece line rest x puts =
-    grown whole grows digest out after (whole_lines (front ++ piece)) x.done (whole_lines_after x.here rest) x.cut (lack_all digest start w out after (whole x.done) puts)
+    → RequestsPut digest w before (whole x.done) d after → RequestsLack digest w before (whole (whole_lines (front ++ piece))) d after
+walk_stopped whole grows digest w before after d Taken front piece line rest x puts =
+    grown whole grows digest w before after d (whole_lines (front ++ piece)) x.done (whole_lines_after x.here rest) x.cut (lack_all digest w before after d (whole x.done) puts)
 
 -- no line feed is left
 pub walk_end : (Taken : List (List ℕ) → Type 0) (front piece : List ℕ) (line : Option (List ℕ)) (rest : List ℕ) (x : Walk Taken front piece line rest)
@@ -90,8 +97,8 @@ pub last_some : (front : List ℕ) (line : Option (List ℕ)) → line ≡ kept 
 last_some front line keeps some = ap (λ ls. whole_lines front ++ ls) (sym (last_is (rest_after [] front) (λ e. some (keeps ∙ e))))
 
 -- what is whole was answered in part, and so was all
-pub ended : (whole all : List (List ℕ) → List Asked) (ends : (ls : List (List ℕ)) → (more : List Asked) × (all ls ≡ whole ls ++ more)) (digest : Digest) (out after : Option (List ℕ)) (ls : List (List ℕ))
-    → RequestsLack digest start out (whole ls) after → RequestsLack digest start out (all ls) after
-ended whole all ends digest out after ls lack =
+pub ended : (whole all : List (List ℕ) → List Asked) (ends : (ls : List (List ℕ)) → (more : List Asked) × (all ls ≡ whole ls ++ more)) (digest : Digest) (w : World) (before after : Outside) (d : Desk) (ls : List (List ℕ))
+    → RequestsLack digest w before (whole ls) d after → RequestsLack digest w before (all ls) d after
+ended whole all ends digest w before after d ls lack =
     let e = ends ls in
-    subst (λ (rs : List Asked). RequestsLack digest start out rs after) (sym e.1) (lack_more digest start out after (whole ls) e.0 lack)
+    subst (λ (rs : List Asked). RequestsLack digest w before rs d after) (sym e.1) (lack_more digest w before after d (whole ls) e.0 lack)

@@ -1,12 +1,19 @@
 -- On runs: what two stretches of requests come to together.
-use Rattle.std.proofs.Common.{◌≡◌, ◌+◌, ◌++◌, ◌∷◌, [], ℕ, List, Option, Some, None, refl, sym, ap, ◌∙◌, subst, inl, inr, append_assoc, append-nil, zero-add, add_assoc, take, drop, take-append-drop}
+use Rattle.std.proofs.Common.{◌≡◌, ◌+◌, ◌++◌, ◌∷◌, [], ℕ, List, Option, Some, None, refl, sym, ap, ◌∙◌, subst, inl, inr, append_assoc, append-nil, zero-add, add-zero, add_assoc, Result, IfOk, take, drop, take-append-drop}
 use Rattle.std.specs.List.{concat}
 use Rattle.std.proofs.lemmas.List.Folds.{concat-append}
 use Rattle.std.specs.Io.KnownBytes.{append_known, prepend_known}
-use Rattle.dw_desk.specs.State.{State}
+use Rattle.dw_derive.specs.World.{World}
+use Rattle.dw_desk.specs.State.{State, start}
+use Rattle.dw_desk.specs.Stands.{state_of}
+use Rattle.dw_desk.specs.declared.desk.Desk.{Desk}
 use Rattle.dw_desk.specs.Session.{Digest, Asked, Answers, Session}
 use Rattle.datawave.specs.Session.{AllAnswered, LastLacks, FrontAnswered, SomeAnswered}
-use Rattle.datawave.specs.Exchange.{RequestPut, RequestLacks, RequestsPut, RequestsLack, PartPut}
+use Rattle.datawave.specs.Outside.{Outside}
+use Rattle.datawave.proofs.Rising.{rose_none, rose_then}
+use Rattle.dw_desk.specs.Desk.{IsFormed}
+use Rattle.datawave.specs.Asking.{Asks}
+use Rattle.datawave.specs.Exchange.{Begun, RequestPut, RequestLacks, RequestsPut, RequestsLack, PartPut}
 
 session_then : (digest : Digest) (w : State) (xs : List Asked) (ts : List (List ℕ)) (ys : List Asked) (us : List (List ℕ)) (mid last : State) (m n : ℕ)
     → Session digest w xs ts mid m → Session digest mid ys us last n → Session digest w (xs ++ ys) (ts ++ us) last (m + n)
@@ -26,57 +33,56 @@ answered_then digest w mid last xs ys a b m n x y = record {
   joined = ap (λ c. c ++ b) x.joined ∙ ap (λ c. concat x.texts ++ c) y.joined ∙ sym (concat-append x.texts y.texts);
 }
 
-lacks_then : (digest : Digest) (w mid : State) (xs ys : List Asked) (a b : List ℕ) (m n : ℕ)
-    → AllAnswered digest w xs a mid m → LastLacks digest mid ys b n → LastLacks digest w (xs ++ ys) (a ++ b) (m + n)
-lacks_then digest w mid xs ys a b m n x y = record {
+lacks_then : (digest : Digest) (w mid last : State) (xs ys : List Asked) (a b : List ℕ) (m n : ℕ)
+    → AllAnswered digest w xs a mid m → LastLacks digest mid ys b last n → LastLacks digest w (xs ++ ys) (a ++ b) last (m + n)
+lacks_then digest w mid last xs ys a b m n x y = record {
   texts = x.texts ++ y.texts;
   part = y.part;
   missing = y.missing;
-  last = y.last;
-  session = subst (λ (ts : List (List ℕ)). Session digest w (xs ++ ys) ts y.last (m + n)) (sym (append_assoc x.texts y.texts ((y.part ++ y.missing) ∷ [])))
-      (session_then digest w xs x.texts ys (y.texts ++ (y.part ++ y.missing) ∷ []) mid y.last m n x.session y.session);
+  session = subst (λ (ts : List (List ℕ)). Session digest w (xs ++ ys) ts last (m + n)) (sym (append_assoc x.texts y.texts ((y.part ++ y.missing) ∷ [])))
+      (session_then digest w xs x.texts ys (y.texts ++ (y.part ++ y.missing) ∷ []) mid last m n x.session y.session);
   joined = ap (λ c. c ++ b) x.joined ∙ ap (λ c. concat x.texts ++ c) y.joined ∙ sym (append_assoc (concat x.texts) (concat y.texts) y.part)
       ∙ ap (λ c. c ++ y.part) (sym (concat-append x.texts y.texts));
 }
 
-front_then : (digest : Digest) (w mid : State) (xs ys : List Asked) (a b : List ℕ) (m n : ℕ)
-    → AllAnswered digest w xs a mid m → FrontAnswered digest mid ys b n → FrontAnswered digest w (xs ++ ys) (a ++ b) (m + n)
-front_then digest w mid xs ys a b m n x (inl y) = inl (y.0, answered_then digest w mid y.0 xs ys a b m n x y.1)
-front_then digest w mid xs ys a b m n x (inr y) = inr (lacks_then digest w mid xs ys a b m n x y)
+front_then : (digest : Digest) (w mid last : State) (xs ys : List Asked) (a b : List ℕ) (m n : ℕ)
+    → AllAnswered digest w xs a mid m → FrontAnswered digest mid ys b last n → FrontAnswered digest w (xs ++ ys) (a ++ b) last (m + n)
+front_then digest w mid last xs ys a b m n x (inl y) = inl (answered_then digest w mid last xs ys a b m n x y)
+front_then digest w mid last xs ys a b m n x (inr y) = inr (lacks_then digest w mid last xs ys a b m n x y)
 
-some_then : (digest : Digest) (w mid : State) (xs ys : List Asked) (a b : List ℕ) (m n : ℕ)
-    → AllAnswered digest w xs a mid m → SomeAnswered digest mid ys b n → SomeAnswered digest w (xs ++ ys) (a ++ b) (m + n)
-some_then digest w mid xs ys a b m n x y = record {
+some_then : (digest : Digest) (w mid last : State) (xs ys : List Asked) (a b : List ℕ) (m n : ℕ)
+    → AllAnswered digest w xs a mid m → SomeAnswered digest mid ys b last n → SomeAnswered digest w (xs ++ ys) (a ++ b) last (m + n)
+some_then digest w mid last xs ys a b m n x y = record {
   front = xs ++ y.front;
   rest = y.rest;
   split = ap (λ c. xs ++ c) y.split ∙ sym (append_assoc xs y.front y.rest);
-  answered = front_then digest w mid xs y.front a b m n x y.answered;
+  answered = front_then digest w mid last xs y.front a b m n x y.answered;
 }
 
 -- requests that follow and were not answered
-some_more : (digest : Digest) (w : State) (xs ys : List Asked) (a : List ℕ) (m : ℕ) → SomeAnswered digest w xs a m → SomeAnswered digest w (xs ++ ys) a m
-some_more digest w xs ys a m x = record {
+some_more : (digest : Digest) (w last : State) (xs ys : List Asked) (a : List ℕ) (m : ℕ) → SomeAnswered digest w xs a last m → SomeAnswered digest w (xs ++ ys) a last m
+some_more digest w last xs ys a m x = record {
   front = x.front;
   rest = x.rest ++ ys;
   split = ap (λ c. c ++ ys) x.split ∙ append_assoc x.front x.rest ys;
   answered = x.answered;
 }
 
-pub some_all : (digest : Digest) (w last : State) (xs : List Asked) (a : List ℕ) (m : ℕ) → AllAnswered digest w xs a last m → SomeAnswered digest w xs a m
-some_all digest w last xs a m x = record { front = xs; rest = []; split = sym (append-nil xs); answered = inl (last, x) }
+pub some_all : (digest : Digest) (w last : State) (xs : List Asked) (a : List ℕ) (m : ℕ) → AllAnswered digest w xs a last m → SomeAnswered digest w xs a last m
+some_all digest w last xs a m x = record { front = xs; rest = []; split = sym (append-nil xs); answered = inl x }
 
 pub answered_none : (digest : Digest) (w : State) → AllAnswered digest w [] [] w 0
 answered_none digest w = record { texts = []; session = (refl, refl); joined = refl }
 
-answered_one : (digest : Digest) (w next : State) (request : Asked) (text : List ℕ) → Answers digest w request text next 0 → AllAnswered digest w (request ∷ []) text next 0
-answered_one digest w next request text h = record { texts = text ∷ []; session = (next, 0, 0, h, (refl, refl), refl); joined = sym (append-nil text) }
+answered_one : (digest : Digest) (w next : State) (request : Asked) (text : List ℕ) (n : ℕ) → Answers digest w request text next n → AllAnswered digest w (request ∷ []) text next n
+answered_one digest w next request text n h = record { texts = text ∷ []; session = (next, n, 0, h, (refl, refl), sym (add-zero n)); joined = sym (append-nil text) }
 
-lacks_one : (digest : Digest) (w next : State) (request : Asked) (part missing : List ℕ) → Answers digest w request (part ++ missing) next 0 → SomeAnswered digest w (request ∷ []) part 0
-lacks_one digest w next request part missing h = record {
+lacks_one : (digest : Digest) (w next : State) (request : Asked) (part missing : List ℕ) (n : ℕ) → Answers digest w request (part ++ missing) next n → SomeAnswered digest w (request ∷ []) part next n
+lacks_one digest w next request part missing n h = record {
   front = request ∷ [];
   rest = [];
   split = refl;
-  answered = inr (record { texts = []; part = part; missing = missing; last = next; session = (next, 0, 0, h, (refl, refl), refl); joined = refl });
+  answered = inr (record { texts = []; part = part; missing = missing; session = (next, n, 0, h, (refl, refl), sym (add-zero n)); joined = refl });
 }
 
 pub known_nothing : (out : Option (List ℕ)) → out ≡ append_known out []
@@ -95,48 +101,98 @@ pub prepend_nothing : (left : Option (List ℕ)) → left ≡ prepend_known [] l
 prepend_nothing None = refl
 prepend_nothing (Some xs) = refl
 
--- ---- the same with what the output holds
+-- ---- the same with the desk, the tables and the output
 
-pub put_none : (digest : Digest) (w : State) (out : Option (List ℕ)) → RequestsPut digest w out [] w out
-put_none digest w out = record { written = []; answered = answered_none digest w; output = known_nothing out }
-
-pub put_then : (digest : Digest) (w mid last : State) (out between after : Option (List ℕ)) (xs ys : List Asked)
-    → RequestsPut digest w out xs mid between → RequestsPut digest mid between ys last after → RequestsPut digest w out (xs ++ ys) last after
-put_then digest w mid last out between after xs ys x y = record {
-  written = x.written ++ y.written;
-  answered = answered_then digest w mid last xs ys x.written y.written 0 0 x.answered y.answered;
-  output = y.output ∙ ap (λ o. append_known o y.written) x.output ∙ known_then out x.written y.written;
+-- no request was answered yet
+pub put_none : (digest : Digest) (w : World) (before after : Outside) (d : Desk) → Begun w before d after → RequestsPut digest w before [] d after
+put_none digest w before after d begun = record {
+  written = [];
+  faults = 0;
+  last = w;
+  stands = begun.stands;
+  answered = subst (λ (s : State). AllAnswered digest (start w) [] [] s 0) (sym begun.first) (answered_none digest (start w));
+  rose = rose_none before.faults after.faults begun.counted;
+  output = sym begun.output ∙ known_nothing before.out;
 }
-
-pub lack_then : (digest : Digest) (w mid : State) (out between after : Option (List ℕ)) (xs ys : List Asked)
-    → RequestsPut digest w out xs mid between → RequestsLack digest mid between ys after → RequestsLack digest w out (xs ++ ys) after
-lack_then digest w mid out between after xs ys x y = record {
-  written = x.written ++ y.written;
-  answered = some_then digest w mid xs ys x.written y.written 0 0 x.answered y.answered;
-  output = y.output ∙ ap (λ o. append_known o y.written) x.output ∙ known_then out x.written y.written;
-}
-
-pub lack_more : (digest : Digest) (w : State) (out after : Option (List ℕ)) (xs ys : List Asked) → RequestsLack digest w out xs after → RequestsLack digest w out (xs ++ ys) after
-lack_more digest w out after xs ys x = record { written = x.written; answered = some_more digest w xs ys x.written 0 x.answered; output = x.output }
-
-pub lack_all : (digest : Digest) (w last : State) (out after : Option (List ℕ)) (xs : List Asked) → RequestsPut digest w out xs last after → RequestsLack digest w out xs after
-lack_all digest w last out after xs x = record { written = x.written; answered = some_all digest w last xs x.written 0 x.answered; output = x.output }
-
-put_one : (digest : Digest) (w next : State) (out after : Option (List ℕ)) (request : Asked) → RequestPut digest w out request next after → RequestsPut digest w out (request ∷ []) next after
-put_one digest w next out after request x = record { written = x.text; answered = answered_one digest w next request x.text x.answers; output = x.output }
-
-lack_one : (digest : Digest) (w : State) (out after : Option (List ℕ)) (request : Asked) → RequestLacks digest w out request after → RequestsLack digest w out (request ∷ []) after
-lack_one digest w out after request x = record { written = x.part; answered = lacks_one digest w x.next request x.part x.missing x.answers; output = x.output }
 
 -- one request more
-pub put_next : (digest : Digest) (w mid last : State) (out between after : Option (List ℕ)) (xs : List Asked) (request : Asked)
-    → RequestsPut digest w out xs mid between → RequestPut digest mid between request last after → RequestsPut digest w out (xs ++ request ∷ []) last after
-put_next digest w mid last out between after xs request x y = put_then digest w mid last out between after xs (request ∷ []) x (put_one digest mid last between after request y)
+put_next : (digest : Digest) (w : World) (before between after : Outside) (d now : Desk) (xs : List Asked) (request : Asked)
+    → (x : RequestsPut digest w before xs d between) → RequestPut digest x.last d between request now after → RequestsPut digest w before (xs ++ request ∷ []) now after
+put_next digest w before between after d now xs request x y =
+    let a = y.answered in
+    record {
+      written = x.written ++ y.text;
+      faults = x.faults + a.faults;
+      last = a.next;
+      stands = a.stands;
+      answered = answered_then digest (start w) (state_of x.last d) (state_of a.next now) xs (request ∷ []) x.written y.text x.faults a.faults x.answered
+          (answered_one digest (state_of x.last d) (state_of a.next now) request y.text a.faults a.answers);
+      rose = rose_then before.faults between.faults after.faults x.faults a.faults x.rose a.rose;
+      output = y.output ∙ ap (λ o. append_known o y.text) x.output ∙ known_then before.out x.written y.text;
+    }
 
 -- the answer to one more broke off
-pub lack_next : (digest : Digest) (w mid : State) (out between after : Option (List ℕ)) (xs : List Asked) (request : Asked)
-    → RequestsPut digest w out xs mid between → RequestLacks digest mid between request after → RequestsLack digest w out (xs ++ request ∷ []) after
-lack_next digest w mid out between after xs request x y = lack_then digest w mid out between after xs (request ∷ []) x (lack_one digest mid between after request y)
+lack_next : (digest : Digest) (w : World) (before between after : Outside) (d now : Desk) (xs : List Asked) (request : Asked)
+    → (x : RequestsPut digest w before xs d between) → RequestLacks digest x.last d between request now after → RequestsLack digest w before (xs ++ request ∷ []) now after
+lack_next digest w before between after d now xs request x y =
+    let a = y.answered in
+    record {
+      written = x.written ++ y.part;
+      faults = x.faults + a.faults;
+      last = a.next;
+      stands = a.stands;
+      answered = some_then digest (start w) (state_of x.last d) (state_of a.next now) xs (request ∷ []) x.written y.part x.faults a.faults x.answered
+          (lacks_one digest (state_of x.last d) (state_of a.next now) request y.part y.missing a.faults a.answers);
+      rose = rose_then before.faults between.faults after.faults x.faults a.faults x.rose a.rose;
+      output = y.output ∙ ap (λ o. append_known o y.part) x.output ∙ known_then before.out x.written y.part;
+    }
+
+pub lack_more : (digest : Digest) (w : World) (before after : Outside) (d : Desk) (xs ys : List Asked) → RequestsLack digest w before xs d after → RequestsLack digest w before (xs ++ ys) d after
+lack_more digest w before after d xs ys x = record {
+  written = x.written;
+  faults = x.faults;
+  last = x.last;
+  stands = x.stands;
+  answered = some_more digest (start w) (state_of x.last d) xs ys x.written x.faults x.answered;
+  rose = x.rose;
+  output = x.output;
+}
+
+pub lack_all : (digest : Digest) (w : World) (before after : Outside) (d : Desk) (xs : List Asked) → RequestsPut digest w before xs d after → RequestsLack digest w before xs d after
+lack_all digest w before after d xs x = record {
+  written = x.written;
+  faults = x.faults;
+  last = x.last;
+  stands = x.stands;
+  answered = some_all digest (start w) (state_of x.last d) xs x.written x.faults x.answered;
+  rose = x.rose;
+  output = x.output;
+}
+
+-- ---- the next request, where there is one
+
+pub next_none : {E : Type 0} (digest : Digest) (w : World) (before after : Outside) (d : Desk) (request : Option (Result Asked E)) (rs more : List Asked) → request ≡ None → Asks request rs more
+    → RequestsPut digest w before rs d after → RequestsPut digest w before more d after
+next_none digest w before after d None rs more is same puts = subst (λ (xs : List Asked). RequestsPut digest w before xs d after) (sym same) puts
+next_none digest w before after d (Some read) rs more is asks puts = cc
+
+pub next_put : {E : Type 0} (digest : Digest) (w : World) (before between after : Outside) (d now : Desk) (request : Option (Result Asked E)) (read : Result Asked E) (rs more : List Asked) → request ≡ Some read
+    → Asks request rs more → (x : RequestsPut digest w before rs d between)
+    → ((asked : Asked) → IfOk read (λ r. r ≡ asked) → IsFormed asked → RequestPut digest x.last d between asked now after) → RequestsPut digest w before more now after
+next_put digest w before between after d now None read rs more is asks x put = cc
+next_put digest w before between after d now (Some other) read rs more is asks x put =
+    let same : other ≡ read = cc in
+    subst (λ (xs : List Asked). RequestsPut digest w before xs now after) (sym asks.3)
+    (put_next digest w before between after d now rs asks.0 x (put asks.0 (subst (λ r. IfOk r (λ q. q ≡ asks.0)) same asks.1) asks.2))
+
+pub next_lacks : {E : Type 0} (digest : Digest) (w : World) (before between after : Outside) (d now : Desk) (request : Option (Result Asked E)) (read : Result Asked E) (rs more : List Asked) → request ≡ Some read
+    → Asks request rs more → (x : RequestsPut digest w before rs d between)
+    → ((asked : Asked) → IfOk read (λ r. r ≡ asked) → IsFormed asked → RequestLacks digest x.last d between asked now after) → RequestsLack digest w before more now after
+next_lacks digest w before between after d now None read rs more is asks x lacks = cc
+next_lacks digest w before between after d now (Some other) read rs more is asks x lacks =
+    let same : other ≡ read = cc in
+    subst (λ (xs : List Asked). RequestsLack digest w before xs now after) (sym asks.3)
+    (lack_next digest w before between after d now rs asks.0 x (lacks asks.0 (subst (λ r. IfOk r (λ q. q ≡ asks.0)) same asks.1) asks.2))
 
 -- ---- a text that is put in parts
 

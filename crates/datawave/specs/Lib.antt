@@ -1,8 +1,12 @@
 pub mod Lines
 pub mod Words
 pub mod Groups
+pub mod Faults
+pub mod Outside
 pub mod Session
+pub mod Asking
 pub mod Readings
+pub mod Working
 pub mod Exchange
 pub mod Texts
 pub mod LineLaws

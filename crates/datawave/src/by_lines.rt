@@ -1,23 +1,21 @@
-ghost use Rattle.std.specs.Prelude.{◌≡◌, ◌++◌, ◌≤◌, ◌^◌, [], ℕ, List, Option, Err, OnOk, OnErr};
+ghost use Rattle.std.specs.Prelude.{◌≡◌, ◌++◌, ◌∷◌, ◌≤◌, [], ℕ, List, Err, OnOk, OnErr};
 ghost use Rattle.dw_outside.specs.Faults.{Rose};
-ghost use Rattle.dw_desk.specs.Desk.{state_of};
-ghost use Rattle.dw_desk.specs.State.{start};
+ghost use Rattle.dw_derive.specs.World.{World};
 ghost use Rattle.datawave.specs.Lines.{kept, lines, rest_after, whole_lines};
+ghost use Rattle.datawave.specs.Outside.{Outside, seen};
 ghost use Rattle.datawave.specs.Exchange.{RequestsLack, RequestsPut};
-ghost use Rattle.datawave.specs.Readings.{max_input};
 
-use crate::exchange::Broken;
+use crate::exchange::{Broken, exchange_next};
 use crate::feeds::split_feed;
 use crate::line::Line;
 use crate::lines::LineWork;
-use crate::work::Work;
+use crate::tools::Tools;
 use dw_desk::Desk;
 use dw_event::UidMaker;
-use dw_outside::Sink;
+use dw_outside::{Keeper, Sink};
+use dw_pool::Gate;
 use std::alloc::Global;
-
-/// The most bytes of input that are taken line by line.
-const MAX_INPUT: u64 = 1_099_511_627_776;
+use std::thread::Threads;
 
 /// Work on the lines of an input: what was read of the line that is not at its end yet, and the work on those before it.
 #[derive(Drop)]
@@ -37,53 +35,73 @@ impl<T: LineWork> ByLines<T> {
         }
     }
 
-    /// Takes the last line, which no line feed ends, where there is one.
-    fn last_line<U: UidMaker, O: Sink>(
+    /// Takes the line that was read, and answers what is whole with it.
+    fn take_line<R: Threads + Sync, K: Keeper, U: UidMaker, G: Gate, O: Sink>(
         &mut self,
-        alloc: Global,
+        tools: &Tools<'_, R, U, G>,
         desk: &mut Desk,
-        uids: &U,
+        keeper: &mut K,
         output: &mut O,
     ) -> Result<(), Broken>
-        ensures put { OnOk result ((out : Option (List ℕ)) (front : List ℕ) → self.old.line ≡ kept (rest_after [] front) → T.holds self.old.work (whole_lines front) →
-            RequestsPut U.digest start out (T.whole (whole_lines front)) (state_of desk.old) (O.taken output.old) →
-            T.holds self.new.work (lines front) × RequestsPut U.digest start out (T.whole (lines front)) (state_of desk.new) (O.taken output.new)) }
-        ensures lacks { OnErr result ((out : Option (List ℕ)) (front : List ℕ) → self.old.line ≡ kept (rest_after [] front) → T.holds self.old.work (whole_lines front) →
-            RequestsPut U.digest start out (T.whole (whole_lines front)) (state_of desk.old) (O.taken output.old) →
-            RequestsLack U.digest start out (T.whole (lines front)) (O.taken output.new)) }
+        ensures put { OnOk result ((w : World) (before : Outside) (ls : List (List ℕ)) (bytes : List ℕ) → self.old.line ≡ kept bytes → T.holds self.old.work ls →
+            RequestsPut U.digest w before (T.whole ls) desk.old (seen (K.told keeper.old) (K.faults keeper.old) (O.taken output.old)) →
+            T.holds self.new.work (ls ++ bytes ∷ []) × RequestsPut U.digest w before (T.whole (ls ++ bytes ∷ [])) desk.new (seen (K.told keeper.new) (K.faults keeper.new) (O.taken output.new))) }
+        ensures lacks { OnErr result ((w : World) (before : Outside) (ls : List (List ℕ)) (bytes : List ℕ) → self.old.line ≡ kept bytes → T.holds self.old.work ls →
+            RequestsPut U.digest w before (T.whole ls) desk.old (seen (K.told keeper.old) (K.faults keeper.old) (O.taken output.old)) →
+            RequestsLack U.digest w before (T.whole (ls ++ bytes ∷ [])) desk.new (seen (K.told keeper.new) (K.faults keeper.new) (O.taken output.new))) }
+        ensures counted { O.faults output.old ≤ O.faults output.new }
+        ensures failed { result ≡ Err Broken.WriteFault → Rose (O.faults output.old) (O.faults output.new) }
+    {
+        let request = self.work.line(tools.alloc, &self.line)?;
+        exchange_next(tools, desk, keeper, &request, output)
+    }
+
+    /// Takes the last line, which no line feed ends, where there is one.
+    fn last_line<R: Threads + Sync, K: Keeper, U: UidMaker, G: Gate, O: Sink>(
+        &mut self,
+        tools: &Tools<'_, R, U, G>,
+        desk: &mut Desk,
+        keeper: &mut K,
+        output: &mut O,
+    ) -> Result<(), Broken>
+        ensures put { OnOk result ((w : World) (before : Outside) (front : List ℕ) → self.old.line ≡ kept (rest_after [] front) → T.holds self.old.work (whole_lines front) →
+            RequestsPut U.digest w before (T.whole (whole_lines front)) desk.old (seen (K.told keeper.old) (K.faults keeper.old) (O.taken output.old)) →
+            T.holds self.new.work (lines front) × RequestsPut U.digest w before (T.whole (lines front)) desk.new (seen (K.told keeper.new) (K.faults keeper.new) (O.taken output.new))) }
+        ensures lacks { OnErr result ((w : World) (before : Outside) (front : List ℕ) → self.old.line ≡ kept (rest_after [] front) → T.holds self.old.work (whole_lines front) →
+            RequestsPut U.digest w before (T.whole (whole_lines front)) desk.old (seen (K.told keeper.old) (K.faults keeper.old) (O.taken output.old)) →
+            RequestsLack U.digest w before (T.whole (lines front)) desk.new (seen (K.told keeper.new) (K.faults keeper.new) (O.taken output.new))) }
         ensures counted { O.faults output.old ≤ O.faults output.new }
         ensures failed { result ≡ Err Broken.WriteFault → Rose (O.faults output.old) (O.faults output.new) }
     {
         if self.line.is_empty() {
             return Ok(());
         }
-        self.work.line(alloc, desk, uids, &self.line, output)
-    }
-}
-
-impl<T: LineWork> Work for ByLines<T> {
-    ghost reading = { record { whole = λ bytes. T.whole (whole_lines bytes); all = λ bytes. T.all (lines bytes); most = max_input } };
-
-    ghost holds = { λ s bytes. (s.line ≡ kept (rest_after [] bytes)) × T.holds s.work (whole_lines bytes) };
-
-    ghost begins = { T.begins };
-
-    fn most(&self) -> u64 {
-        MAX_INPUT
+        self.take_line(tools, desk, keeper, output)
     }
 
-    fn take<U: UidMaker, O: Sink>(
+    /// Takes the next piece of the input, and answers what is whole with it.
+    pub fn take<R: Threads + Sync, K: Keeper, U: UidMaker, G: Gate, O: Sink>(
         &mut self,
-        alloc: Global,
+        tools: &Tools<'_, R, U, G>,
         desk: &mut Desk,
-        uids: &U,
+        keeper: &mut K,
         piece: &[u8],
         output: &mut O,
-    ) -> Result<(), Broken> {
+    ) -> Result<(), Broken>
+        ensures put { OnOk result ((w : World) (before : Outside) (front : List ℕ) → (self.old.line ≡ kept (rest_after [] front)) × T.holds self.old.work (whole_lines front) →
+            RequestsPut U.digest w before (T.whole (whole_lines front)) desk.old (seen (K.told keeper.old) (K.faults keeper.old) (O.taken output.old)) →
+            ((self.new.line ≡ kept (rest_after [] (front ++ piece.now))) × T.holds self.new.work (whole_lines (front ++ piece.now)))
+            × RequestsPut U.digest w before (T.whole (whole_lines (front ++ piece.now))) desk.new (seen (K.told keeper.new) (K.faults keeper.new) (O.taken output.new))) }
+        ensures lacks { OnErr result ((w : World) (before : Outside) (front : List ℕ) → (self.old.line ≡ kept (rest_after [] front)) × T.holds self.old.work (whole_lines front) →
+            RequestsPut U.digest w before (T.whole (whole_lines front)) desk.old (seen (K.told keeper.old) (K.faults keeper.old) (O.taken output.old)) →
+            RequestsLack U.digest w before (T.whole (whole_lines (front ++ piece.now))) desk.new (seen (K.told keeper.new) (K.faults keeper.new) (O.taken output.new))) }
+        ensures counted { O.faults output.old ≤ O.faults output.new }
+        ensures failed { result ≡ Err Broken.WriteFault → Rose (O.faults output.old) (O.faults output.new) }
+    {
         let mut rest = piece;
         while let Some((text, more)) = split_feed(rest) {
             self.line.add(text)?;
-            self.work.line(alloc, desk, uids, &self.line, output)?;
+            self.take_line(tools, desk, keeper, output)?;
             self.line.clear();
             rest = more;
         }
@@ -91,14 +109,25 @@ impl<T: LineWork> Work for ByLines<T> {
         Ok(())
     }
 
-    fn finish<U: UidMaker, O: Sink>(
+    /// Answers what is left at the end of the input.
+    pub fn finish<R: Threads + Sync, K: Keeper, U: UidMaker, G: Gate, O: Sink>(
         &mut self,
-        alloc: Global,
+        tools: &Tools<'_, R, U, G>,
         desk: &mut Desk,
-        uids: &U,
+        keeper: &mut K,
         output: &mut O,
-    ) -> Result<(), Broken> {
-        self.last_line(alloc, desk, uids, output)?;
-        self.work.end(alloc, desk, uids, output)
+    ) -> Result<(), Broken>
+        ensures put { OnOk result ((w : World) (before : Outside) (front : List ℕ) → (self.old.line ≡ kept (rest_after [] front)) × T.holds self.old.work (whole_lines front) →
+            RequestsPut U.digest w before (T.whole (whole_lines front)) desk.old (seen (K.told keeper.old) (K.faults keeper.old) (O.taken output.old)) →
+            RequestsPut U.digest w before (T.all (lines front)) desk.new (seen (K.told keeper.new) (K.faults keeper.new) (O.taken output.new))) }
+        ensures lacks { OnErr result ((w : World) (before : Outside) (front : List ℕ) → (self.old.line ≡ kept (rest_after [] front)) × T.holds self.old.work (whole_lines front) →
+            RequestsPut U.digest w before (T.whole (whole_lines front)) desk.old (seen (K.told keeper.old) (K.faults keeper.old) (O.taken output.old)) →
+            RequestsLack U.digest w before (T.all (lines front)) desk.new (seen (K.told keeper.new) (K.faults keeper.new) (O.taken output.new))) }
+        ensures counted { O.faults output.old ≤ O.faults output.new }
+        ensures failed { result ≡ Err Broken.WriteFault → Rose (O.faults output.old) (O.faults output.new) }
+    {
+        self.last_line(tools, desk, keeper, output)?;
+        let request = self.work.end(tools.alloc);
+        exchange_next(tools, desk, keeper, &request, output)
     }
 }

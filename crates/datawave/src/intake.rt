@@ -2,19 +2,24 @@ ghost use Rattle.std.specs.Prelude.{◌≡◌, ◌≢◌, ◌≤◌, ◌<◌, �
 ghost use Rattle.std.specs.Io.KnownBytes.{prepend_known, IsAtEnd};
 ghost use Rattle.dw_outside.specs.Faults.{Rose};
 ghost use Rattle.dw_outside.specs.Moved.{done_bytes};
-ghost use Rattle.dw_desk.specs.Desk.{state_of};
-ghost use Rattle.datawave.specs.Session.{Runs};
-ghost use Rattle.datawave.specs.Exchange.{Progress};
+ghost use Rattle.dw_derive.specs.World.{World};
+ghost use Rattle.datawave.specs.Outside.{Outside, seen};
+ghost use Rattle.datawave.specs.Session.{Reading, Runs};
+ghost use Rattle.datawave.specs.Working.{Held, IsFresh};
+ghost use Rattle.datawave.specs.Exchange.{Begun, Progress};
 ghost use Rattle.datawave.specs.Statuses.{status_of};
 
 use crate::exchange::Broken;
 use crate::status::Status;
+use crate::tools::Tools;
 use crate::work::Work;
 use dw_desk::Desk;
 use dw_event::UidMaker;
 use dw_key::OutOfMemory;
-use dw_outside::{Failed, Sink, Source};
+use dw_outside::{Failed, Keeper, Sink, Source};
+use dw_pool::Gate;
 use std::alloc::Global;
+use std::thread::Threads;
 
 #[cfg(test)]
 mod tests;
@@ -24,11 +29,15 @@ const PIECE: usize = 65_536;
 
 /// A run between two pieces of its input.
 #[derive(Drop)]
-struct Talk<W> {
+struct Talk {
     desk: Desk,
-    work: W,
+    work: Work,
+    /// The most bytes that are taken.
+    most: u64,
     /// How many bytes were taken so far.
     total: u64,
+    ghost small: { most ≤ 2 ^ 40 },
+    ghost within: { total ≤ most },
 }
 
 fn end_of(broken: Broken) -> Status
@@ -82,89 +91,89 @@ fn front_of(bytes: &[u8], count: usize) -> &[u8]
 }
 
 /// Answers what is left at the end of the input.
-fn finish<O: Sink, U: UidMaker, W: Work>(
-    alloc: Global,
-    uids: &U,
-    talk: &mut Talk<W>,
+fn finish<R: Threads + Sync, K: Keeper, U: UidMaker, G: Gate, O: Sink>(
+    tools: &Tools<'_, R, U, G>,
+    keeper: &mut K,
+    talk: &mut Talk,
     output: &mut O,
 ) -> Status
-    ensures runs { (before left out : Option (List ℕ)) → IsAtEnd left → talk.old.total ≤ W.reading.most →
-        Progress U.digest W.reading (W.holds talk.old.work) before left out (O.taken output.old) (state_of talk.old.desk) talk.old.total →
-        Runs U.digest W.reading result before left out (O.taken output.new) }
-    ensures ends { (result ≢ Status.BadWords) × (result ≢ Status.ReadFault) × (result ≢ Status.TooMuch) }
+    ensures runs { (reading : Reading) (w : World) (start left : Option (List ℕ)) (before : Outside) → IsAtEnd left → reading.most ≡ talk.old.most →
+        Progress U.digest reading (Held reading talk.old.work) w start left before talk.old.desk (seen (K.told keeper.old) (K.faults keeper.old) (O.taken output.old)) talk.old.total →
+        Runs U.digest reading result w start left before (seen (K.told keeper.new) (K.faults keeper.new) (O.taken output.new)) }
+    ensures same { talk.new.most ≡ talk.old.most }
+    ensures ends { (result ≢ Status.BadWords) × (result ≢ Status.ReadFault) × (result ≢ Status.StoreFault) × (result ≢ Status.TooMuch) }
     ensures counted { O.faults output.old ≤ O.faults output.new }
     ensures write_fault { result ≡ Status.WriteFault → Rose (O.faults output.old) (O.faults output.new) }
 {
-    match talk.work.finish(alloc, &mut talk.desk, uids, output) {
+    match talk.work.finish(tools, &mut talk.desk, keeper, output) {
         Ok(()) => Status::Done,
         Err(broken) => end_of(broken),
     }
 }
 
 /// Takes one piece of the input and answers what is whole with it. Gives the status where the run ends here.
-fn turn<S: Source, O: Sink, U: UidMaker, W: Work>(
-    alloc: Global,
-    uids: &U,
-    talk: &mut Talk<W>,
+fn turn<R: Threads + Sync, K: Keeper, U: UidMaker, G: Gate, S: Source, O: Sink>(
+    tools: &Tools<'_, R, U, G>,
+    keeper: &mut K,
+    talk: &mut Talk,
     buffer: &mut [u8],
     input: &mut S,
     output: &mut O,
 ) -> Option<Status>
     requires room { 0 < length buffer.old }
-    requires total { talk.old.total ≤ W.reading.most }
-    ensures goes { IfNone result ((talk.old.total < talk.new.total) × (talk.new.total ≤ W.reading.most)) }
-    ensures between { IfNone result ((before out : Option (List ℕ)) →
-        Progress U.digest W.reading (W.holds talk.old.work) before (S.left input.old) out (O.taken output.old) (state_of talk.old.desk) talk.old.total →
-        Progress U.digest W.reading (W.holds talk.new.work) before (S.left input.new) out (O.taken output.new) (state_of talk.new.desk) talk.new.total) }
-    ensures ends { IfSome result (λ status. (before out : Option (List ℕ)) →
-        Progress U.digest W.reading (W.holds talk.old.work) before (S.left input.old) out (O.taken output.old) (state_of talk.old.desk) talk.old.total →
-        Runs U.digest W.reading status before (S.left input.new) out (O.taken output.new)) }
-    ensures words { result ≢ Some Status.BadWords }
+    ensures goes { IfNone result (talk.old.total < talk.new.total) }
+    ensures same { talk.new.most ≡ talk.old.most }
+    ensures between { IfNone result ((reading : Reading) (w : World) (start : Option (List ℕ)) (before : Outside) → reading.most ≡ talk.old.most →
+        Progress U.digest reading (Held reading talk.old.work) w start (S.left input.old) before talk.old.desk (seen (K.told keeper.old) (K.faults keeper.old) (O.taken output.old)) talk.old.total →
+        Progress U.digest reading (Held reading talk.new.work) w start (S.left input.new) before talk.new.desk (seen (K.told keeper.new) (K.faults keeper.new) (O.taken output.new)) talk.new.total) }
+    ensures ends { IfSome result (λ status. (reading : Reading) (w : World) (start : Option (List ℕ)) (before : Outside) → reading.most ≡ talk.old.most →
+        Progress U.digest reading (Held reading talk.old.work) w start (S.left input.old) before talk.old.desk (seen (K.told keeper.old) (K.faults keeper.old) (O.taken output.old)) talk.old.total →
+        Runs U.digest reading status w start (S.left input.new) before (seen (K.told keeper.new) (K.faults keeper.new) (O.taken output.new))) }
+    ensures begun { (result ≢ Some Status.BadWords) × (result ≢ Some Status.StoreFault) }
     ensures taken { S.faults input.old ≤ S.faults input.new }
     ensures put { O.faults output.old ≤ O.faults output.new }
     ensures read_fault { result ≡ Some Status.ReadFault → Rose (S.faults input.old) (S.faults input.new) }
     ensures write_fault { result ≡ Some Status.WriteFault → Rose (O.faults output.old) (O.faults output.new) }
 {
-    let limit = talk.work.most();
-    let most = piece_size(limit, talk.total, buffer.len());
+    let most = piece_size(talk.most, talk.total, buffer.len());
     let count = match take_at_most(input, buffer, most) {
         Ok(count) => count,
         Err(_) => return Some(Status::ReadFault),
     };
     if count == 0 {
-        return Some(finish(alloc, uids, talk, output));
+        return Some(finish(tools, keeper, talk, output));
     }
-    talk.total += count as u64;
-    if talk.total > limit {
+    let total = talk.total + count as u64;
+    if total > talk.most {
         return Some(Status::TooMuch);
     }
+    talk.total = total;
     let piece = front_of(buffer, count);
-    match talk.work.take(alloc, &mut talk.desk, uids, piece, output) {
+    match talk.work.take(tools, &mut talk.desk, keeper, piece, output) {
         Ok(()) => None,
         Err(broken) => Some(end_of(broken)),
     }
 }
 
 /// Takes pieces until the run ends.
-fn exchange_all<S: Source, O: Sink, U: UidMaker, W: Work>(
-    alloc: Global,
-    uids: &U,
-    talk: &mut Talk<W>,
+fn exchange_all<R: Threads + Sync, K: Keeper, U: UidMaker, G: Gate, S: Source, O: Sink>(
+    tools: &Tools<'_, R, U, G>,
+    keeper: &mut K,
+    talk: &mut Talk,
     buffer: &mut [u8],
     input: &mut S,
     output: &mut O,
 ) -> Status
     requires room { 0 < length buffer.old }
-    requires total { talk.old.total ≤ W.reading.most }
-    ensures runs { (before out : Option (List ℕ)) →
-        Progress U.digest W.reading (W.holds talk.old.work) before (S.left input.old) out (O.taken output.old) (state_of talk.old.desk) talk.old.total →
-        Runs U.digest W.reading result before (S.left input.new) out (O.taken output.new) }
-    ensures words { result ≢ Status.BadWords }
+    ensures runs { (reading : Reading) (w : World) (start : Option (List ℕ)) (before : Outside) → reading.most ≡ talk.old.most →
+        Progress U.digest reading (Held reading talk.old.work) w start (S.left input.old) before talk.old.desk (seen (K.told keeper.old) (K.faults keeper.old) (O.taken output.old)) talk.old.total →
+        Runs U.digest reading result w start (S.left input.new) before (seen (K.told keeper.new) (K.faults keeper.new) (O.taken output.new)) }
+    ensures begun { (result ≢ Status.BadWords) × (result ≢ Status.StoreFault) }
     ensures read_fault { result ≡ Status.ReadFault → Rose (S.faults input.old) (S.faults input.new) }
     ensures write_fault { result ≡ Status.WriteFault → Rose (O.faults output.old) (O.faults output.new) }
 {
     loop {
-        if let Some(status) = turn(alloc, uids, talk, buffer, input, output) {
+        if let Some(status) = turn(tools, keeper, talk, buffer, input, output) {
             return status;
         }
     }
@@ -178,27 +187,37 @@ fn buffer_of(alloc: Global, size: usize) -> Result<Vec<u8>, OutOfMemory>
     vec![in alloc; 0u8; size]
 }
 
-/// Does some work on the bytes of an input until it ends, fails or is too much.
-pub fn work_through<S: Source, O: Sink, U: UidMaker, W: Work>(
-    alloc: Global,
-    work: W,
+/// Does some work on the bytes of an input, over a desk that was just loaded, until it ends, fails or is too much.
+pub fn work_through<R: Threads + Sync, K: Keeper, U: UidMaker, G: Gate, S: Source, O: Sink>(
+    tools: &Tools<'_, R, U, G>,
+    desk: Desk,
+    keeper: &mut K,
+    work: Work,
     input: &mut S,
     output: &mut O,
-    uids: &U,
 ) -> Status
-    requires { W.holds work [] }
-    ensures runs { Runs U.digest W.reading result (S.left input.old) (S.left input.new) (O.taken output.old) (O.taken output.new) }
-    ensures words { result ≢ Status.BadWords }
+    ensures runs { (reading : Reading) (w : World) (before : Outside) → IsFresh reading work → Begun w before desk (seen (K.told keeper.old) (K.faults keeper.old) (O.taken output.old)) →
+        Runs U.digest reading result w (S.left input.old) (S.left input.new) before (seen (K.told keeper.new) (K.faults keeper.new) (O.taken output.new)) }
+    ensures begun { (result ≢ Status.BadWords) × (result ≢ Status.StoreFault) }
     ensures read_fault { result ≡ Status.ReadFault → Rose (S.faults input.old) (S.faults input.new) }
     ensures write_fault { result ≡ Status.WriteFault → Rose (O.faults output.old) (O.faults output.new) }
 {
-    let Ok(mut buffer) = buffer_of(alloc, PIECE) else {
+    let Ok(mut buffer) = buffer_of(tools.alloc, PIECE) else {
         return Status::OutOfMemory;
     };
+    let most = work.most();
     let mut talk = Talk {
-        desk: Desk::new(alloc),
+        desk,
         work,
+        most,
         total: 0,
     };
-    exchange_all(alloc, uids, &mut talk, buffer.as_mut_slice(), input, output)
+    exchange_all(
+        tools,
+        keeper,
+        &mut talk,
+        buffer.as_mut_slice(),
+        input,
+        output,
+    )
 }

@@ -1,19 +1,14 @@
-ghost use Rattle.std.specs.Prelude.{◌≡◌, ◌++◌, ◌∷◌, ◌≤◌, [], ℕ, List, Option, Err, OnOk, OnErr};
-ghost use Rattle.dw_outside.specs.Faults.{Rose};
-ghost use Rattle.dw_desk.specs.Desk.{state_of};
+ghost use Rattle.std.specs.Prelude.{◌≡◌, ◌++◌, ◌∷◌, [], ℕ, List, IfOk};
 ghost use Rattle.dw_desk.specs.Session.{Asked};
-ghost use Rattle.dw_desk.specs.State.{start};
 ghost use Rattle.datawave.specs.Lines.{kept};
-ghost use Rattle.datawave.specs.Exchange.{RequestsLack, RequestsPut};
+ghost use Rattle.datawave.specs.Asking.{Asks};
 
-use crate::exchange::Broken;
+use crate::exchange::Read;
 use crate::line::Line;
-use dw_desk::Desk;
-use dw_event::UidMaker;
-use dw_outside::Sink;
+use dw_key::OutOfMemory;
 use std::alloc::Global;
 
-/// What is done with the lines of an input, one after another.
+/// What is asked for by the lines of an input, one after another.
 pub trait LineWork: Drop {
     /// What lines ask for, whatever follows.
     ghost whole: { List (List ℕ) → List Asked };
@@ -21,43 +16,17 @@ pub trait LineWork: Drop {
     /// What lines ask for, where they are all.
     ghost all: { List (List ℕ) → List Asked };
 
-    /// What is held once these lines came, and what is whole in them was answered.
+    /// What is held once these lines came.
     ghost holds: { Self → List (List ℕ) → Type 0 };
 
-    /// Takes the next line, and answers what is whole with it.
-    fn line<U: UidMaker, O: Sink>(
-        &mut self,
-        alloc: Global,
-        desk: &mut Desk,
-        uids: &U,
-        line: &Line,
-        output: &mut O,
-    ) -> Result<(), Broken>
-        ensures put { OnOk result ((out : Option (List ℕ)) (ls : List (List ℕ)) (bytes : List ℕ) → line.now ≡ kept bytes → holds self.old ls →
-            RequestsPut U.digest start out (whole ls) (state_of desk.old) (O.taken output.old) →
-            holds self.new (ls ++ bytes ∷ []) × RequestsPut U.digest start out (whole (ls ++ bytes ∷ [])) (state_of desk.new) (O.taken output.new)) }
-        ensures lacks { OnErr result ((out : Option (List ℕ)) (ls : List (List ℕ)) (bytes : List ℕ) → line.now ≡ kept bytes → holds self.old ls →
-            RequestsPut U.digest start out (whole ls) (state_of desk.old) (O.taken output.old) →
-            RequestsLack U.digest start out (whole (ls ++ bytes ∷ [])) (O.taken output.new)) }
-        ensures counted { O.faults output.old ≤ O.faults output.new }
-        ensures failed { result ≡ Err Broken.WriteFault → Rose (O.faults output.old) (O.faults output.new) };
+    /// Takes the next line, and gives the request that is whole with it, where one is.
+    fn line(&mut self, alloc: Global, line: &Line) -> Result<Option<Read>, OutOfMemory>
+        ensures { IfOk result (λ request. (ls : List (List ℕ)) (bytes : List ℕ) → line.now ≡ kept bytes → holds self.old ls →
+            holds self.new (ls ++ bytes ∷ []) × Asks request (whole ls) (whole (ls ++ bytes ∷ []))) };
 
-    /// Answers what is left after the last line.
-    fn end<U: UidMaker, O: Sink>(
-        &mut self,
-        alloc: Global,
-        desk: &mut Desk,
-        uids: &U,
-        output: &mut O,
-    ) -> Result<(), Broken>
-        ensures put { OnOk result ((out : Option (List ℕ)) (ls : List (List ℕ)) → holds self.old ls →
-            RequestsPut U.digest start out (whole ls) (state_of desk.old) (O.taken output.old) →
-            RequestsPut U.digest start out (all ls) (state_of desk.new) (O.taken output.new)) }
-        ensures lacks { OnErr result ((out : Option (List ℕ)) (ls : List (List ℕ)) → holds self.old ls →
-            RequestsPut U.digest start out (whole ls) (state_of desk.old) (O.taken output.old) →
-            RequestsLack U.digest start out (all ls) (O.taken output.new)) }
-        ensures counted { O.faults output.old ≤ O.faults output.new }
-        ensures failed { result ≡ Err Broken.WriteFault → Rose (O.faults output.old) (O.faults output.new) };
+    /// Gives the request that is left after the last line, where one is.
+    fn end(&mut self, alloc: Global) -> Option<Read>
+        ensures { (ls : List (List ℕ)) → holds self.old ls → Asks result (whole ls) (all ls) };
 
     /// Nothing is asked for by no lines.
     ghost begins: { whole [] ≡ [] };

@@ -1,16 +1,15 @@
 ghost use Rattle.std.specs.Prelude.{◌≡◌, ℕ, List, IfOk};
+ghost use Rattle.dw_event.specs.Records.{IsWellFormed};
 ghost use Rattle.datawave.specs.Lines.{kept};
 ghost use Rattle.datawave.specs.Groups.{line_record};
 
-use crate::exchange::Broken;
+use crate::exchange::Read;
 use crate::gathering::{gather, gather_last};
 use crate::line::Line;
 use crate::lines::LineWork;
-use dw_desk::Desk;
-use dw_event::{BadRecord, Record, UidMaker};
+use dw_event::{BadRecord, Record};
 use dw_groups::{Records, read_text};
 use dw_key::OutOfMemory;
-use dw_outside::Sink;
 use std::alloc::Global;
 
 /// Lines that are records of JSON, of which the present group is held.
@@ -21,9 +20,10 @@ pub struct RecordLines {
 
 impl RecordLines {
     ghost use Rattle.std.specs.Prelude.{[]};
+    ghost use Rattle.datawave.specs.Asking.{Gathered};
 
     pub fn new(alloc: Global) -> RecordLines
-        ensures { result.group ≡ [] }
+        ensures { Gathered [] result.group }
     {
         RecordLines {
             group: Records::new(alloc),
@@ -33,7 +33,8 @@ impl RecordLines {
 
 /// The record that a line is. A line that is too long is of another shape.
 fn record_of(alloc: Global, line: &Line) -> Result<Result<Record, BadRecord>, OutOfMemory>
-    ensures { IfOk result (λ r. (bytes : List ℕ) → line.now ≡ kept bytes → r ≡ line_record bytes) }
+    ensures is { IfOk result (λ r. (bytes : List ℕ) → line.now ≡ kept bytes → r ≡ line_record bytes) }
+    ensures well_formed { IfOk result (λ r. IfOk r IsWellFormed) }
 {
     match line.bytes() {
         Some(bytes) => read_text(alloc, bytes),
@@ -43,7 +44,7 @@ fn record_of(alloc: Global, line: &Line) -> Result<Result<Record, BadRecord>, Ou
 
 impl LineWork for RecordLines {
     ghost use Rattle.std.proofs.Common.{refl};
-    ghost use Rattle.dw_groups.specs.Groups.{last_items};
+    ghost use Rattle.datawave.specs.Asking.{Gathered};
     ghost use Rattle.datawave.specs.Groups.{full_ingests, ingests, line_records};
     ghost use Rattle.datawave.specs.LineLaws.{groups_grow, groups_end};
 
@@ -51,7 +52,7 @@ impl LineWork for RecordLines {
 
     ghost all = { λ ls. ingests (line_records ls) };
 
-    ghost holds = { λ s ls. s.group ≡ last_items (line_records ls) };
+    ghost holds = { λ s ls. Gathered (line_records ls) s.group };
 
     ghost begins = { refl };
 
@@ -59,25 +60,12 @@ impl LineWork for RecordLines {
 
     ghost ends = { groups_end };
 
-    fn line<U: UidMaker, O: Sink>(
-        &mut self,
-        alloc: Global,
-        desk: &mut Desk,
-        uids: &U,
-        line: &Line,
-        output: &mut O,
-    ) -> Result<(), Broken> {
+    fn line(&mut self, alloc: Global, line: &Line) -> Result<Option<Read>, OutOfMemory> {
         let rec = record_of(alloc, line)?;
-        gather(alloc, &mut self.group, desk, uids, rec, output)
+        gather(alloc, &mut self.group, rec)
     }
 
-    fn end<U: UidMaker, O: Sink>(
-        &mut self,
-        alloc: Global,
-        desk: &mut Desk,
-        uids: &U,
-        output: &mut O,
-    ) -> Result<(), Broken> {
-        gather_last(alloc, &mut self.group, desk, uids, output)
+    fn end(&mut self, alloc: Global) -> Option<Read> {
+        gather_last(alloc, &mut self.group)
     }
 }

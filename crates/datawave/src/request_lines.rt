@@ -2,22 +2,19 @@ ghost use Rattle.std.specs.Prelude.{◌≡◌, ℕ, List, IfOk};
 ghost use Rattle.datawave.specs.Lines.{kept};
 ghost use Rattle.dw_wire.specs.ReadLine.{read_line as request_on};
 
-use crate::exchange::{Broken, exchange};
+use crate::exchange::Read;
 use crate::line::Line;
 use crate::lines::LineWork;
-use dw_desk::Desk;
-use dw_event::UidMaker;
 use dw_key::OutOfMemory;
-use dw_outside::Sink;
-use dw_wire::{Request, Why, read_line};
+use dw_wire::{Why, read_line};
 use std::alloc::Global;
 
-/// Lines that are requests, each answered before the next is read.
+/// Lines that are requests.
 #[derive(Drop)]
 pub struct RequestLines;
 
 /// The request that a line is. A line that is too long is none.
-fn request_of(alloc: Global, line: &Line) -> Result<Result<Request, Why>, OutOfMemory>
+fn request_of(alloc: Global, line: &Line) -> Read
     ensures { IfOk result (λ r. (bytes : List ℕ) → line.now ≡ kept bytes → r ≡ request_on bytes) }
 {
     match line.bytes() {
@@ -43,25 +40,11 @@ impl LineWork for RequestLines {
 
     ghost ends = { requests_end };
 
-    fn line<U: UidMaker, O: Sink>(
-        &mut self,
-        alloc: Global,
-        desk: &mut Desk,
-        uids: &U,
-        line: &Line,
-        output: &mut O,
-    ) -> Result<(), Broken> {
-        let request = request_of(alloc, line);
-        exchange(alloc, desk, uids, &request, output)
+    fn line(&mut self, alloc: Global, line: &Line) -> Result<Option<Read>, OutOfMemory> {
+        Ok(Some(request_of(alloc, line)))
     }
 
-    fn end<U: UidMaker, O: Sink>(
-        &mut self,
-        _alloc: Global,
-        _desk: &mut Desk,
-        _uids: &U,
-        _output: &mut O,
-    ) -> Result<(), Broken> {
-        Ok(())
+    fn end(&mut self, _alloc: Global) -> Option<Read> {
+        None
     }
 }

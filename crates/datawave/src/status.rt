@@ -11,6 +11,8 @@ pub enum Status {
     ReadFault,
     /// The output failed.
     WriteFault,
+    /// The keeper failed before anything was taken of the input.
+    StoreFault,
     /// Memory was wanting.
     OutOfMemory,
     /// More than 2^40 bytes came in.
@@ -29,6 +31,7 @@ impl Status {
             Status::BadWords => 2,
             Status::ReadFault => 3,
             Status::WriteFault => 4,
+            Status::StoreFault => 5,
             Status::OutOfMemory => 7,
             Status::TooMuch => 8,
         }
@@ -41,6 +44,7 @@ impl Status {
             Status::BadWords => "bad words",
             Status::ReadFault => "read fault",
             Status::WriteFault => "write fault",
+            Status::StoreFault => "store fault",
             Status::OutOfMemory => "out of memory",
             Status::TooMuch => "too much input",
         }

@@ -1,17 +1,35 @@
-//! The program over memory: scripts with their replies, failing devices, and words.
+//! The program over memory: scripts with their replies, failing objects, and words.
 use super::run;
 use crate::status::Status;
 use crate::tests::scripts::{ALL, ORDER, Script};
 use dw_event::{ConstUid, MarkUid, UidMaker};
 use dw_key::{Bytes, OutOfMemory, Text};
-use dw_outside::{MemSink, MemSource};
+use dw_outside::{MemKeeper, MemSink, MemSource};
+use dw_pool::OpenGate;
 use std::alloc::Global;
 use std::test::Fail;
+use std::thread::Threads;
 
+mod faults;
 mod groups;
 mod laboratory;
+mod lists;
 mod scripts;
 mod stops;
+
+/// Which call of each object fails, counted from 1; 0 is none.
+#[derive(Clone, Copy)]
+struct Failing {
+    take: u64,
+    put: u64,
+    store: u64,
+}
+
+const NEVER: Failing = Failing {
+    take: 0,
+    put: 0,
+    store: 0,
+};
 
 fn words_of(alloc: Global, words: &[&str]) -> Result<Vec<Text>, OutOfMemory> {
     let mut texts = Vec::new(alloc);
@@ -27,38 +45,61 @@ fn calls(alloc: Global, call: u64) -> Result<Vec<u64>, OutOfMemory> {
     Ok(calls)
 }
 
-/// The status of a command over these bytes, whose n-th take and m-th put fail, and what was written.
-fn ends_of<U: UidMaker>(
+/// The status of a command over these bytes and an empty keeper, and what was written.
+fn ends_of<R: Threads + Sync, U: UidMaker>(
+    rt: &R,
     alloc: Global,
     uids: &U,
     words: &[&str],
     input: &[u8],
-    take: u64,
-    put: u64,
+    failing: Failing,
+) -> Result<(Status, Bytes), OutOfMemory> {
+    let mut keeper = MemKeeper::new(alloc, calls(alloc, failing.store)?);
+    ends_over(rt, alloc, uids, words, input, failing, &mut keeper)
+}
+
+/// The same over a keeper.
+fn ends_over<R: Threads + Sync, U: UidMaker>(
+    rt: &R,
+    alloc: Global,
+    uids: &U,
+    words: &[&str],
+    input: &[u8],
+    failing: Failing,
+    keeper: &mut MemKeeper,
 ) -> Result<(Status, Bytes), OutOfMemory> {
     let bytes = Bytes::of(alloc, input)?;
-    let mut source = MemSource::new(bytes, 100, calls(alloc, take)?);
-    let mut sink = MemSink::new(alloc, 65_536, calls(alloc, put)?)?;
+    let mut source = MemSource::new(bytes, 100, calls(alloc, failing.take)?);
+    let mut sink = MemSink::new(alloc, 65_536, calls(alloc, failing.put)?)?;
     let words = words_of(alloc, words)?;
-    let status = run(alloc, words.as_slice(), &mut source, &mut sink, uids);
+    let status = run(
+        rt,
+        alloc,
+        words.as_slice(),
+        &mut source,
+        &mut sink,
+        keeper,
+        uids,
+        &OpenGate,
+    );
     Ok((status, Bytes::of(alloc, sink.bytes())?))
 }
 
-/// The same of `exec` over these lines.
-fn ends<U: UidMaker>(
+/// The same of `exec` over these lines and an empty keeper.
+fn ends<R: Threads + Sync, U: UidMaker>(
+    rt: &R,
     alloc: Global,
     uids: &U,
     input: &str,
-    take: u64,
-    put: u64,
+    failing: Failing,
 ) -> Result<(Status, Bytes), OutOfMemory> {
-    ends_of(alloc, uids, &["exec"], input.as_bytes(), take, put)
+    ends_of(rt, alloc, uids, &["exec"], input.as_bytes(), failing)
 }
 
 #[test]
 fn scripts_have_their_replies(rt: HostRuntime) -> Result<(), Fail> {
     for script in ALL {
-        let (status, written) = ends(rt.alloc(), &MarkUid, script.requests, 0, 0)?;
+        let (status, written) = ends(&rt, rt.alloc(), &MarkUid, script.requests, NEVER)?;
         assert!(rt; status == Status::Done);
         assert!(rt;
             written.as_slice() == script.replies.as_bytes(),
@@ -71,7 +112,7 @@ fn scripts_have_their_replies(rt: HostRuntime) -> Result<(), Fail> {
 
 #[test]
 fn nothing_comes_of_nothing(rt: HostRuntime) -> Result<(), Fail> {
-    let (status, written) = ends(rt.alloc(), &MarkUid, "", 0, 0)?;
+    let (status, written) = ends(&rt, rt.alloc(), &MarkUid, "", NEVER)?;
     assert!(rt; status == Status::Done);
     assert!(rt; written.as_slice().is_empty());
     Ok(())
@@ -84,41 +125,57 @@ fn one_uid_for_all_clashes(rt: HostRuntime) -> Result<(), Fail> {
     let replies =
         r#"{"bad":[{"at":1,"shard":"20240101_0","type":"lab","uid":"0000000000000000000000000000000000000000000000000000000000000000","why":"clash"}],"new":1,"ok":"ingest","repeat":0}
 "#;
-    let (status, written) = ends(rt.alloc(), &ConstUid, requests, 0, 0)?;
+    let (status, written) = ends(&rt, rt.alloc(), &ConstUid, requests, NEVER)?;
     assert!(rt; status == Status::Done);
     assert!(rt; written.as_slice() == replies.as_bytes());
     Ok(())
 }
 
+/// The status of the script of `ORDER` where a call fails, and whether its text is a front of the replies.
+fn breaks_off<R: Threads + Sync>(
+    rt: &R,
+    alloc: Global,
+    failing: Failing,
+) -> Result<(Status, bool), OutOfMemory> {
+    let Script { requests, replies } = ORDER;
+    let (status, written) = ends(rt, alloc, &MarkUid, requests, failing)?;
+    Ok((status, replies.as_bytes().starts_with(written.as_slice())))
+}
+
 #[test]
 fn failing_devices_end_the_run(rt: HostRuntime) -> Result<(), Fail> {
-    let Script { requests, replies } = ORDER;
     for call in 1..6 {
-        let (status, written) = ends(rt.alloc(), &MarkUid, requests, call, 0)?;
-        assert!(rt; status == Status::ReadFault);
-        assert!(rt; replies.as_bytes().starts_with(written.as_slice()));
-        let (status, written) = ends(rt.alloc(), &MarkUid, requests, 0, call)?;
-        assert!(rt; status == Status::WriteFault);
-        assert!(rt; replies.as_bytes().starts_with(written.as_slice()));
+        let (status, front) = breaks_off(
+            &rt,
+            rt.alloc(),
+            Failing {
+                take: call,
+                ..NEVER
+            },
+        )?;
+        assert!(rt; status == Status::ReadFault && front);
+        let (status, front) = breaks_off(&rt, rt.alloc(), Failing { put: call, ..NEVER })?;
+        assert!(rt; status == Status::WriteFault && front);
     }
     Ok(())
 }
 
 /// Whether these words are refused with nothing written.
-fn are_refused(alloc: Global, words: &[&str]) -> Result<bool, OutOfMemory> {
-    let mut source = MemSource::new(Bytes::of(alloc, b"x")?, 1, Vec::new(alloc));
-    let mut sink = MemSink::new(alloc, 10, Vec::new(alloc))?;
-    let words = words_of(alloc, words)?;
-    let status = run(alloc, words.as_slice(), &mut source, &mut sink, &MarkUid);
-    Ok(status == Status::BadWords && sink.bytes().is_empty())
+fn are_refused<R: Threads + Sync>(
+    rt: &R,
+    alloc: Global,
+    words: &[&str],
+) -> Result<bool, OutOfMemory> {
+    let (status, written) = ends_of(rt, alloc, &MarkUid, words, b"x", NEVER)?;
+    Ok(status == Status::BadWords && written.as_slice().is_empty())
 }
 
 #[test]
 fn other_words_are_refused(rt: HostRuntime) -> Result<(), Fail> {
-    let none = are_refused(rt.alloc(), &[])?;
+    let none = are_refused(&rt, rt.alloc(), &[])?;
     assert!(rt; none);
     for word in ["help", "", "Exec", "ingest", "--form=csv"] {
-        let refused = are_refused(rt.alloc(), &[word])?;
+        let refused = are_refused(&rt, rt.alloc(), &[word])?;
         assert!(rt; refused, "{word}");
     }
     for (word, next) in [
@@ -132,7 +189,7 @@ fn other_words_are_refused(rt: HostRuntime) -> Result<(), Fail> {
         ("ingest", "csv"),
         ("ingest", "--"),
     ] {
-        let refused = are_refused(rt.alloc(), &[word, next])?;
+        let refused = are_refused(&rt, rt.alloc(), &[word, next])?;
         assert!(rt; refused, "{word} {next}");
     }
     for (form, next) in [
@@ -141,10 +198,10 @@ fn other_words_are_refused(rt: HostRuntime) -> Result<(), Fail> {
         ("--form=csv", "--form=csv"),
         ("--form=json", "more"),
     ] {
-        let refused = are_refused(rt.alloc(), &["ingest", form, next])?;
+        let refused = are_refused(&rt, rt.alloc(), &["ingest", form, next])?;
         assert!(rt; refused, "{form} {next}");
     }
-    let more = are_refused(rt.alloc(), &["ingest", "--form", "csv", "more"])?;
+    let more = are_refused(&rt, rt.alloc(), &["ingest", "--form", "csv", "more"])?;
     assert!(rt; more);
     Ok(())
 }
@@ -156,6 +213,7 @@ fn each_status_has_its_number_and_its_text(rt: HostRuntime) {
         (Status::BadWords, 2, "bad words"),
         (Status::ReadFault, 3, "read fault"),
         (Status::WriteFault, 4, "write fault"),
+        (Status::StoreFault, 5, "store fault"),
         (Status::OutOfMemory, 7, "out of memory"),
         (Status::TooMuch, 8, "too much input"),
     ] {

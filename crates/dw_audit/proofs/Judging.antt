@@ -1,5 +1,5 @@
 -- On the verdict of an audit.
-use Rattle.std.proofs.Common.{◌≡◌, ◌⊎◌, inl, inr, ◌≤◌, ◌<◌, ℕ, zero, suc, Bool, true, false, List, [], map, refl, sym, ap, subst, ◌∙◌, arith}
+use Rattle.std.proofs.Common.{◌≡◌, ◌⊎◌, inl, inr, ◌≤◌, ◌<◌, ℕ, zero, suc, Bool, true, false, List, refl, sym, ap, subst, ◌∙◌, arith}
 use Rattle.std.specs.Prelude.{Option, Some, None}
 use Rattle.std.specs.Cmp.{nat_cmp_is}
 use Rattle.std.specs.Cmp.Lexicographic.{slice_cmp}
@@ -9,8 +9,7 @@ use Rattle.std.specs.declared.cmp.Ordering.TheVariants.{Less, Equal, Greater}
 use Rattle.std.proofs.lemmas.Bool.{cases_lt}
 use Rattle.dw_key.specs.KeyLaws.{CodesTellKeys}
 use Rattle.dw_outside.specs.declared.slot.Slot.{Slot}
-use Rattle.dw_outside.specs.declared.cell.Cell.{Cell}
-use Rattle.dw_outside.specs.Tables.{Tables, slot_cmp, cell_pair, span_of}
+use Rattle.dw_outside.specs.Tables.{Tables, HasFourTables, slot_cmp}
 use Rattle.dw_audit.specs.declared.comparing.Difference.{Difference}
 use Rattle.dw_audit.specs.declared.verdict.Verdict.{Verdict}
 use Rattle.dw_audit.specs.declared.verdict.Verdict.TheVariants.{Sound, Damaged}
@@ -19,6 +18,7 @@ use Rattle.dw_audit.specs.Comparing.{wanted_beside, IsAlike, IsCompared}
 use Rattle.dw_audit.specs.Making.{newer_tables}
 use Rattle.dw_audit.specs.Found.{IsVerdict, IsAsWanted, IsReady, damaged_at}
 use Rattle.dw_audit.proofs.OlderForms.{plain_table, meta_table, list_table}
+use Rattle.dw_audit.proofs.WholeAgain.{whole_alike}
 
 -- the tables 1 and 2 have lists
 abbrev has_lists : ℕ → Bool
@@ -97,36 +97,43 @@ newer_compared lists table t u o e h = subst (λ x. IsCompared lists table t x o
 pub first_found : CodesTellKeys → (t u : Tables) (o : Option Difference) (d : Difference) → u ≡ newer_tables t → o ≡ Some d → IsCompared false 0 t u o → IsVerdict t (damaged_at 0 d)
 first_found tell t u o d e is h = first_difference tell t 0 d (omega arith) (λ n l. absurd (omega arith)) (subst (IsCompared false 0 t (newer_tables t)) is (newer_compared false 0 t u o e h))
 
-pub first_ready : CodesTellKeys → (t : Tables) (meta : List Cell) (u : Tables) (o : Option Difference) → map cell_pair meta ≡ span_of 3 [] [] t → u ≡ newer_tables t → o ≡ None → IsCompared false 0 t u o → IsReady t meta u 1
-first_ready tell t meta u o cells e is h = record {
-  cells = cells;
+pub first_ready : CodesTellKeys → (t u : Tables) (o : Option Difference) → HasFourTables t → u ≡ newer_tables t → o ≡ None → IsCompared false 0 t u o → IsReady t u 1
+first_ready tell t u o four e is h = record {
+  four = four;
   newer = e;
   below = below_one t (all_same tell t 0 (omega arith) (subst (IsCompared false 0 t (newer_tables t)) is (newer_compared false 0 t u o e h)));
 }
 
 -- the next table differs first
-pub next_found : CodesTellKeys → (t : Tables) (meta : List Cell) (u : Tables) (table : ℕ) (o : Option Difference) (d : Difference) → table ≤ 3 → IsReady t meta u table → o ≡ Some d
+pub next_found : CodesTellKeys → (t u : Tables) (table : ℕ) (o : Option Difference) (d : Difference) → table ≤ 3 → IsReady t u table → o ≡ Some d
     → IsCompared (has_lists table) table t u o → IsVerdict t (damaged_at table d)
-next_found tell t meta u table o d l ready is h = first_difference tell t table d l ready.below (subst (IsCompared (has_lists table) table t (newer_tables t)) is (newer_compared (has_lists table) table t u o ready.newer h))
+next_found tell t u table o d l ready is h = first_difference tell t table d l ready.below (subst (IsCompared (has_lists table) table t (newer_tables t)) is (newer_compared (has_lists table) table t u o ready.newer h))
 
 -- or is as it is wanted
-pub next_ready : CodesTellKeys → (t : Tables) (meta : List Cell) (u : Tables) (table : ℕ) (o : Option Difference) → table ≤ 3 → IsReady t meta u table → o ≡ None
-    → IsCompared (has_lists table) table t u o → IsReady t meta u (suc table)
-next_ready tell t meta u table o l ready is h = record {
-  cells = ready.cells;
+pub next_ready : CodesTellKeys → (t u : Tables) (table : ℕ) (o : Option Difference) → table ≤ 3 → IsReady t u table → o ≡ None
+    → IsCompared (has_lists table) table t u o → IsReady t u (suc table)
+next_ready tell t u table o l ready is h = record {
+  four = ready.four;
   newer = ready.newer;
   below = below_more t table ready.below (all_same tell t table l (subst (IsCompared (has_lists table) table t (newer_tables t)) is (newer_compared (has_lists table) table t u o ready.newer h)));
 }
 
 -- where all four are, the tables are sound
-pub all_ready : (t : Tables) (meta : List Cell) (u : Tables) → IsReady t meta u 4 → AreSound t
-all_ready t meta u ready s l = ready.below s.table (omega arith) s.key
+pub all_ready : (t u : Tables) → IsReady t u 4 → AreSound t
+all_ready t u ready = whole_alike t ready.four (λ s l. ready.below s.table (omega arith) s.key)
+
+-- the same of a table of lists
+pub lists_compared : (t u : Tables) (table : ℕ) (o : Option Difference) → 1 ≤ table → table ≤ 2 → IsCompared true table t u o → IsCompared (has_lists table) table t u o
+lists_compared t u zero o above below h = absurd (omega (arith, above))
+lists_compared t u (suc zero) o above below h = h
+lists_compared t u (suc (suc zero)) o above below h = h
+lists_compared t u (suc (suc (suc n))) o above below h = absurd (omega (arith, below))
 
 -- ---- a verdict that is true tells whether tables are sound
 
 pub is_sound : (t : Tables) (v : Verdict) → IsVerdict t v → AreSound t → v ≡ Sound
 is_sound t Sound h s = refl
-is_sound t (Damaged table key found wanted) h s = absurd (h.differ (sym h.found ∙ s (record { table = table; key = key }) h.table ∙ h.wanted))
+is_sound t (Damaged table key found wanted) h s = absurd (h.differ (sym h.found ∙ ap (λ m. get m (record { table = table; key = key })) (sym s) ∙ h.wanted))
 
 pub sound_is : (t : Tables) (v : Verdict) → IsVerdict t v → v ≡ Sound → AreSound t
 sound_is t v h e = subst (IsVerdict t) e h

@@ -11,6 +11,6 @@ pub mod ReadMeta
 pub mod StoodFor
 pub mod Makings
 pub mod OlderForms
-pub mod Judging
 pub mod WholeAgain
+pub mod Judging
 pub mod Changes

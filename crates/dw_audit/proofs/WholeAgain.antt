@@ -15,7 +15,7 @@ use Rattle.dw_event.specs.declared.cells.EventCell.{EventCell}
 use Rattle.dw_event.specs.Records.{canon, is_cell, keeps_rules}
 use Rattle.dw_event.specs.Take.{Event}
 use Rattle.dw_outside.specs.declared.slot.Slot.{Slot}
-use Rattle.dw_outside.specs.Tables.{Tables, slot_cmp, is_slot}
+use Rattle.dw_outside.specs.Tables.{Tables, HasFourTables, slot_cmp, is_slot}
 use Rattle.dw_outside.proofs.CellMaps.{exact_slots, slots_total, same_slot}
 use Rattle.dw_derive.specs.declared.event_cells.Entry.{Entry}
 use Rattle.dw_derive.specs.declared.uid_list.Form.{Form}
@@ -35,11 +35,11 @@ use Rattle.dw_derive.proofs.Growing.{content_at, get_tables}
 use Rattle.dw_derive.proofs.Shards.{left, right, KeepsRules, rules_of}
 use Rattle.dw_derive.proofs.WholeWorlds.{reads_of_world, events_are_read, each_cell, all_both, any_alike_all, none_any}
 use Rattle.dw_audit.specs.WorldOf.{code_counts, readings_in, is_batch, is_kept, is_shard, stored_events, greatest_batch, last_for, begins_with_one, is_older, older_slots, world_of}
-use Rattle.dw_audit.specs.Sound.{AreSound}
-use Rattle.dw_audit.specs.Laws.{IsReadAgain, WorldsAreRead, HasFourTables, SoundTablesAreOfWorlds}
+use Rattle.dw_audit.specs.Sound.{AreSound, wanted_tables}
+use Rattle.dw_audit.specs.Laws.{IsReadAgain, WorldsAreRead, SoundTablesAreOfWorlds}
 use Rattle.dw_audit.proofs.Passing.{all_kept, all_weaker, both, none_or, only_true}
 use Rattle.dw_audit.proofs.ShardNames.{is_shard_of}
-use Rattle.dw_audit.proofs.StoodFor.{contains_older}
+use Rattle.dw_audit.proofs.StoodFor.{contains_older, world_is}
 
 -- ---- each cell of a world counts
 
@@ -205,7 +205,7 @@ worlds_read meta w is = read_again w is (meta w is)
 -- ---- sound tables
 
 pub worlds_sound : MetaIsRead → (w : World) → IsWorld w → AreSound (tables w)
-worlds_sound meta w is s l = ap (λ m. get m s) (sym (worlds_read meta w is).again)
+worlds_sound meta w is = (worlds_read meta w is).again
 
 low_entry : (e : Event) (n : Entry) → Shape e n → n.table ≤ 3
 low_entry e n (inl z) = omega arith
@@ -253,12 +253,17 @@ nothing_above t s four high = at (get t s) refl
     at None e = refl
     at (Some x) e = let low = four s (ap is_some e) in absurd (omega (arith, low, high))
 
-pub sound_is_world : (t : Tables) → HasFourTables t → AreSound t → tables (world_of t) ≡ t
-sound_is_world t four sound = same_map slots_total exact_slots _ _ (λ s. at s (cases_lt 3 s.table))
+-- tables that are no more than four, and have in each slot of these what is wanted there, are sound
+pub whole_alike : (t : Tables) → HasFourTables t → ((s : Slot) → s.table ≤ 3 → get t s ≡ get (wanted_tables t) s) → AreSound t
+whole_alike t four alike = same_map slots_total exact_slots _ _ (λ s. at s (cases_lt 3 s.table))
   where
-    at : (s : Slot) → (3 < s.table) ⊎ (s.table ≤ 3) → get (tables (world_of t)) s ≡ get t s
-    at s (inl high) = nothing_above (tables (world_of t)) s (four_of_world (world_of t)) high ∙ sym (nothing_above t s four high)
-    at s (inr low) = sym (sound s low)
+    at : (s : Slot) → (3 < s.table) ⊎ (s.table ≤ 3) → get (wanted_tables t) s ≡ get t s
+    at s (inl high) = nothing_above (wanted_tables t) s (four_of_world (world_of t)) high ∙ sym (nothing_above t s four high)
+    at s (inr low) = sym (alike s low)
 
 pub sound_tables : MetaIsRead → SoundTablesAreOfWorlds
-sound_tables meta = record { sound = sound_is_world; four = four_of_world; worlds = worlds_sound meta }
+sound_tables meta = record {
+  sound = λ t sound. (world_of t, (world_is t, sym sound));
+  four = four_of_world;
+  worlds = worlds_sound meta;
+}

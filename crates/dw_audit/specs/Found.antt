@@ -1,8 +1,7 @@
 -- What an audit finds.
-use Rattle.std.specs.Prelude.{◌≡◌, ℕ, ◌<◌, List, [], map as list_map}
+use Rattle.std.specs.Prelude.{◌≡◌, ℕ, suc, ◌<◌, List, Option, Some, None}
 use Rattle.std.specs.FinMap as map
-use Rattle.dw_outside.specs.declared.cell.Cell.{Cell}
-use Rattle.dw_outside.specs.Tables.{Tables, cell_pair, span_of}
+use Rattle.dw_outside.specs.Tables.{Tables, HasFourTables}
 use Rattle.dw_audit.specs.declared.comparing.Difference.{Difference}
 use Rattle.dw_audit.specs.declared.verdict.Verdict.{Verdict}
 use Rattle.dw_audit.specs.declared.verdict.Verdict.TheVariants.{Sound, Damaged}
@@ -21,8 +20,13 @@ damaged_at table d = Damaged table d.key d.found d.wanted
 abbrev pub IsAsWanted : Tables → ℕ → Type 0
 IsAsWanted t table = (key : List ℕ) → map.get t (record { table = table; key = key }) ≡ map.get (wanted_tables t) (record { table = table; key = key })
 
--- the cells of table 3, and the tables that are wanted with each list in the newer form; the tables below are as they are wanted
-pub record IsReady (t : Tables) (meta : List Cell) (u : Tables) (table : ℕ) : Type 0 where
-  pub cells : list_map cell_pair meta ≡ span_of 3 [] [] t
+-- the tables that are wanted with each list in the newer form; the tables below one are as they are wanted
+pub record IsReady (t u : Tables) (table : ℕ) : Type 0 where
+  pub four : HasFourTables t
   pub newer : u ≡ newer_tables t
   pub below : (n : ℕ) → n < table → IsAsWanted t n
+
+-- the verdict, where this table differs, or else it is as it is wanted too
+abbrev pub IsJudged : Tables → Tables → ℕ → Option Verdict → Type 0
+IsJudged t u table None = IsReady t u (suc table)
+IsJudged t u table (Some verdict) = IsVerdict t verdict

@@ -1,6 +1,5 @@
 -- Laws of sound tables.
-use Rattle.std.specs.Prelude.{◌≡◌, ◌≤◌, ℕ, true, IsTrue, List, [], Some, Result}
-use Rattle.std.specs.Option.{is_some}
+use Rattle.std.specs.Prelude.{◌≡◌, ℕ, IsTrue, List, [], Some, Result}
 use Rattle.std.specs.FinMap as map
 use Rattle.dw_base.specs.Callers.{is_caller}
 use Rattle.dw_base.specs.FieldNames.{is_folded_name}
@@ -8,8 +7,7 @@ use Rattle.dw_dict.specs.declared.rule.FieldRule.{FieldRule}
 use Rattle.dw_event.specs.declared.records.Record.{Record}
 use Rattle.dw_event.specs.declared.reports.BadRecord.{BadRecord}
 use Rattle.dw_event.specs.declared.reports.Report.{Report}
-use Rattle.dw_outside.specs.declared.slot.Slot.{Slot}
-use Rattle.dw_outside.specs.Tables.{Tables}
+use Rattle.dw_outside.specs.Tables.{Tables, HasFourTables}
 use Rattle.dw_derive.specs.World.{World}
 use Rattle.dw_derive.specs.Tables.{tables}
 use Rattle.dw_derive.specs.Lawful.{IsWorld}
@@ -36,13 +34,9 @@ pub record IsReadAgain (w : World) : Type 0 where
 abbrev pub WorldsAreRead : Type 0
 WorldsAreRead = (w : World) → IsWorld w → IsReadAgain w
 
--- no cell stands outside the four tables
-abbrev pub HasFourTables : Tables → Type 0
-HasFourTables t = (s : Slot) → is_some (map.get t s) ≡ true → s.table ≤ 3
-
--- sound tables are those of a world, and the tables of a world are sound
+-- sound tables are those of a world, and the tables of a world are four, and sound
 pub record SoundTablesAreOfWorlds : Type 0 where
-  pub sound : (t : Tables) → HasFourTables t → AreSound t → tables (world_of t) ≡ t
+  pub sound : (t : Tables) → AreSound t → (w : World) × (IsWorld w × (t ≡ tables w))
   pub four : (w : World) → HasFourTables (tables w)
   pub worlds : (w : World) → IsWorld w → AreSound (tables w)
 
@@ -50,5 +44,5 @@ pub record SoundTablesAreOfWorlds : Type 0 where
 pub record ChangesAreSound : Type 0 where
   pub ingested : (digest : List ℕ → List ℕ) (t u : Tables) (records : List (Result Record BadRecord)) (r : Report) → Ingested digest (world_of t) records r (Some u) → AreSound u
   pub reindexed : (t u : Tables) (field : List ℕ) (rule : FieldRule) (new : ℕ) → IsTrue (is_folded_name field) → Reindexed (world_of t) field rule new (Some u) → AreSound u
-  pub defined : (t : Tables) (field : List ℕ) (rule : FieldRule) → HasFourTables t → AreSound t → (world_of t).events ≡ [] → IsTrue (is_folded_name field) → AreSound (map.insert t (field_slot field) (rule_bytes rule))
-  pub granted : (t : Tables) (caller : List ℕ) (names : List (List ℕ)) → HasFourTables t → AreSound t → IsTrue (is_caller caller) → AreGranted names → AreSound (map.insert t (grant_slot caller) (names_bytes names))
+  pub defined : (t : Tables) (field : List ℕ) (rule : FieldRule) → AreSound t → (world_of t).events ≡ [] → IsTrue (is_folded_name field) → AreSound (map.insert t (field_slot field) (rule_bytes rule))
+  pub granted : (t : Tables) (caller : List ℕ) (names : List (List ℕ)) → AreSound t → IsTrue (is_caller caller) → AreGranted names → AreSound (map.insert t (grant_slot caller) (names_bytes names))

@@ -1,23 +1,26 @@
 -- When tables are sound, and where they are not.
-use Rattle.std.specs.Prelude.{◌≡◌, ◌≢◌, ℕ, ◌≤◌, List, Option}
+use Rattle.std.specs.Prelude.{◌≡◌, ◌≢◌, ℕ, ◌≤◌, List, Option, Some}
 use Rattle.std.specs.FinMap as map
 use Rattle.std.specs.declared.cmp.Ordering.TheVariants.{Less}
 use Rattle.dw_outside.specs.declared.slot.Slot.{Slot}
 use Rattle.dw_outside.specs.Tables.{Tables, slot_cmp}
+use Rattle.dw_derive.specs.World.{World}
 use Rattle.dw_derive.specs.Tables.{tables}
+use Rattle.dw_derive.specs.Lawful.{IsWorld}
 use Rattle.dw_audit.specs.WorldOf.{world_of}
 
 -- the tables that the world of tables has
 abbrev pub wanted_tables : Tables → Tables
 wanted_tables t = tables (world_of t)
 
--- the four tables have the same cells
-abbrev pub AreAlike : Tables → Tables → Type 0
-AreAlike t u = (s : Slot) → s.table ≤ 3 → map.get t s ≡ map.get u s
-
 -- tables that are those of their world
 abbrev pub AreSound : Tables → Type 0
-AreSound t = AreAlike t (wanted_tables t)
+AreSound t = wanted_tables t ≡ t
+
+-- what is told are the tables of this world, which keeps the rules of a world
+pub record TellsWorld (w : World) (told : Option Tables) : Type 0 where
+  pub world : IsWorld w
+  pub tables : told ≡ Some (tables w)
 
 -- the first slot at which tables and those of their world differ, by table and then by key, and what each has there
 pub record IsFirstDifference (t : Tables) (s : Slot) (has wants : Option (List ℕ)) : Type 0 where

@@ -3,8 +3,9 @@ ghost use Rattle.dw_outside.specs.Faults.{Rose};
 ghost use Rattle.dw_outside.specs.Tables.{Tables, cell_pair, span_of};
 ghost use Rattle.dw_outside.specs.declared.keeper_error.KeeperError.{KeeperError};
 ghost use Rattle.dw_audit.specs.Comparing.{IsCompared};
-ghost use Rattle.dw_audit.specs.Sound.{AreSound};
-ghost use Rattle.dw_audit.specs.Found.{IsVerdict, IsReady, damaged_at};
+ghost use Rattle.dw_audit.specs.Sound.{AreSound, TellsWorld};
+ghost use Rattle.dw_audit.specs.WorldOf.{world_of};
+ghost use Rattle.dw_audit.specs.Found.{IsVerdict, IsReady, IsJudged, damaged_at};
 ghost use Rattle.dw_audit.specs.declared.verdict.Verdict.{Verdict};
 
 use crate::OutOfMemory;
@@ -47,8 +48,9 @@ fn damaged(table: u8, difference: Difference) -> Verdict
 /// from them, by table and then by key. The tables are left as they are.
 pub fn audit<K: Keeper>(alloc: Global, keeper: &mut K) -> Result<Verdict, KeeperError>
     ensures same { K.told keeper.new ≡ K.told keeper.old }
-    // Sound exactly where the tables are those of their world,
+    // Sound exactly where the tables are those of their world, so that the keeper tells a lawful world's,
     ensures sound { (t : Tables) → K.told keeper.old ≡ Some t → IfOk result (λ v. (v ≡ Verdict.Sound) ↔ AreSound t) }
+    ensures world { (t : Tables) → K.told keeper.old ≡ Some t → IfOk result (λ v. v ≡ Verdict.Sound → TellsWorld (world_of t) (K.told keeper.new)) }
     // and else the first difference.
     ensures verdict { (t : Tables) → K.told keeper.old ≡ Some t → IfOk result (λ v. IsVerdict t v) }
     ensures unasked { K.asked keeper.new ≡ K.asked keeper.old }
@@ -74,54 +76,58 @@ fn judge<K: Keeper>(alloc: Global, keeper: &mut K) -> Result<Verdict, KeeperErro
     let difference = compare(alloc, 0, false, shard.as_slice(), &wanted)?;
     drop(shard);
     match difference {
-        None => judge_index(alloc, keeper, meta.as_slice(), &wanted),
+        None => judge_indexes(alloc, keeper, meta.as_slice(), &wanted),
         Some(difference) => Ok(damaged(0, difference)),
     }
 }
 
-/// The verdict, where the table before is as it is wanted.
-fn judge_index<K: Keeper>(
+/// The verdict, where the table before the indexes is as it is wanted.
+fn judge_indexes<K: Keeper>(
     alloc: Global,
     keeper: &mut K,
     meta: &[Cell],
     wanted: &Store,
 ) -> Result<Verdict, KeeperError>
     ensures same { K.told keeper.new ≡ K.told keeper.old }
-    ensures verdict { (t : Tables) → K.told keeper.old ≡ Some t → IsReady t meta.now wanted.now 1 → IfOk result (λ v. IsVerdict t v) }
+    ensures verdict { (t : Tables) → K.told keeper.old ≡ Some t → list_map cell_pair meta.now ≡ span_of 3 [] [] t → IsReady t wanted.now 1 → IfOk result (λ v. IsVerdict t v) }
     ensures unasked { K.asked keeper.new ≡ K.asked keeper.old }
     ensures counted { K.faults keeper.old ≤ K.faults keeper.new }
     ensures failed { result ≡ Err KeeperError.Failed → Rose (K.faults keeper.old) (K.faults keeper.new) }
 {
-    codes_tell_keys();
-    match compare_lists(alloc, keeper, 1, wanted)? {
-        None => judge_reversed(alloc, keeper, meta, wanted),
-        Some(difference) => Ok(damaged(1, difference)),
+    if let Some(verdict) = judge_index(alloc, keeper, 1, wanted)? {
+        return Ok(verdict);
+    }
+    match judge_index(alloc, keeper, 2, wanted)? {
+        None => Ok(judge_meta(alloc, meta, wanted)?),
+        Some(verdict) => Ok(verdict),
     }
 }
 
-/// The verdict, where the two tables before are as they are wanted.
-fn judge_reversed<K: Keeper>(
+/// The verdict, where the tables before an index are as they are wanted and the index is not.
+fn judge_index<K: Keeper>(
     alloc: Global,
     keeper: &mut K,
-    meta: &[Cell],
+    table: u8,
     wanted: &Store,
-) -> Result<Verdict, KeeperError>
+) -> Result<Option<Verdict>, KeeperError>
+    requires above { 1 ≤ table }
+    requires below { table ≤ 2 }
     ensures same { K.told keeper.new ≡ K.told keeper.old }
-    ensures verdict { (t : Tables) → K.told keeper.old ≡ Some t → IsReady t meta.now wanted.now 2 → IfOk result (λ v. IsVerdict t v) }
+    ensures judged { (t : Tables) → K.told keeper.old ≡ Some t → IsReady t wanted.now table → IfOk result (λ o. IsJudged t wanted.now table o) }
     ensures unasked { K.asked keeper.new ≡ K.asked keeper.old }
     ensures counted { K.faults keeper.old ≤ K.faults keeper.new }
     ensures failed { result ≡ Err KeeperError.Failed → Rose (K.faults keeper.old) (K.faults keeper.new) }
 {
     codes_tell_keys();
-    match compare_lists(alloc, keeper, 2, wanted)? {
-        None => Ok(judge_meta(alloc, meta, wanted)?),
-        Some(difference) => Ok(damaged(2, difference)),
+    match compare_lists(alloc, keeper, table, wanted)? {
+        None => Ok(None),
+        Some(difference) => Ok(Some(damaged(table, difference))),
     }
 }
 
 /// The verdict, where the three tables before are as they are wanted.
 fn judge_meta(alloc: Global, meta: &[Cell], wanted: &Store) -> Result<Verdict, OutOfMemory>
-    ensures { (t : Tables) → IsReady t meta.now wanted.now 3 → IfOk result (λ v. IsVerdict t v) }
+    ensures { (t : Tables) → list_map cell_pair meta.now ≡ span_of 3 [] [] t → IsReady t wanted.now 3 → IfOk result (λ v. IsVerdict t v) }
 {
     codes_tell_keys();
     match compare(alloc, 3, false, meta, wanted)? {

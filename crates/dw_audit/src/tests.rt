@@ -1,117 +1,18 @@
 use crate::{Verdict, audit};
-use dw_base::{Bytes, Names, Text};
-use dw_derive::{commit_cell, doc_text, field_cell, grant_cell};
-use dw_dict::{Dict, FieldRule};
-use dw_event::{BadRecord, Cells, EventCell, MarkUid, Record};
-use dw_ingest::ingest;
+use dw_base::{Bytes, Text};
+use dw_derive::{commit_cell, doc_text};
+use dw_event::{Cells, EventCell, Record};
 use dw_key::{DType, DocKey, Key, encode};
-use dw_norm::Kind;
 use dw_outside::{Keeper, KeeperError, MemKeeper, Put};
 use dw_vis::Vis;
 use std::alloc::Global;
 use std::test::Fail;
+use stores::{
+    Harm, Lack, damaged, difference, keeper_of, plain_store, rows_of, rows_with, set,
+    store_without, stored,
+};
 
-/// Sets one cell.
-fn set(keeper: &mut MemKeeper, put: Put) -> Result<(), Fail> {
-    if put.table > 3 {
-        return Err(Fail::from("no table"));
-    }
-    keeper.apply(&[put])?;
-    Ok(())
-}
-
-/// A record of the type `lab` and the first day of 2024.
-fn lab_record(alloc: Global, fields: &[(&str, &str)]) -> Result<Record, Fail> {
-    let mut cells = Cells::new(alloc);
-    for (field, raw) in fields {
-        cells.put(EventCell {
-            field: Text::of(alloc, field)?,
-            raw: Text::of(alloc, raw)?,
-            vis: Vis::everyone(alloc),
-        })?;
-    }
-    Ok(Record {
-        dtype: DType::of(b"lab").ok_or("no type")?,
-        date: Text::of(alloc, "20240101")?,
-        cells,
-    })
-}
-
-fn two_records(alloc: Global) -> Result<Vec<Result<Record, BadRecord>>, Fail> {
-    let mut records = Vec::new(alloc);
-    records.push(Ok(lab_record(alloc, &[("A", "x"), ("ID", "0-1")])?))?;
-    let second = [("A", "x"), ("B", "1"), ("B", "2"), ("ID", "0-2")];
-    records.push(Ok(lab_record(alloc, &second)?))?;
-    Ok(records)
-}
-
-/// The store with these records, where A is indexed.
-fn stored(
-    alloc: Global,
-    keeper: MemKeeper,
-    records: &[Result<Record, BadRecord>],
-) -> Result<MemKeeper, Fail> {
-    let mut keeper = keeper;
-    let rule = FieldRule::of(Kind::Noop, true, false).ok_or("no rule")?;
-    let mut dict = Dict::new(alloc);
-    dict.define("A", rule)?;
-    set(&mut keeper, field_cell(alloc, "A", rule)?)?;
-    if records.len() > 2 {
-        return Err(Fail::from("range"));
-    }
-    let taken = ingest(alloc, &mut keeper, &MarkUid, &dict, 0, records);
-    if taken.is_err() {
-        return Err(Fail::from("an ingest"));
-    }
-    Ok(keeper)
-}
-
-/// A store in which A is indexed, two events were taken in, and ann was granted S.
-fn plain_store(alloc: Global) -> Result<MemKeeper, Fail> {
-    let records = two_records(alloc)?;
-    let keeper = MemKeeper::without_reads(alloc);
-    let mut keeper = stored(alloc, keeper, records.as_slice())?;
-    let mut names = Names::new(alloc);
-    names.put(Text::of(alloc, "S")?)?;
-    if names
-        .as_slice()
-        .iter()
-        .all(|name| name.as_str().len() < 512)
-    {
-        set(&mut keeper, grant_cell(alloc, "ann", &names)?)?;
-    }
-    Ok(keeper)
-}
-
-/// The store with another content in one cell, or without that cell.
-fn damaged(
-    alloc: Global,
-    keeper: &mut MemKeeper,
-    table: u8,
-    at: usize,
-    content: Option<&[u8]>,
-) -> Result<MemKeeper, Fail> {
-    let mut other = MemKeeper::without_reads(alloc);
-    for each in 0..4u8 {
-        let cells = keeper.scan(each, b"", b"", 0)?;
-        for (place, cell) in cells.as_slice().iter().enumerate() {
-            let content = if each != table || place != at {
-                Some(cell.content.as_slice())
-            } else {
-                content
-            };
-            if let Some(content) = content {
-                let put = Put {
-                    table: each,
-                    key: cell.key.copy()?,
-                    content: Bytes::of(alloc, content)?,
-                };
-                set(&mut other, put)?;
-            }
-        }
-    }
-    Ok(other)
-}
+mod stores;
 
 /// Where a key stands among the cells of a table.
 fn place_of(keeper: &mut MemKeeper, table: u8, key: &[u8]) -> Option<usize> {
@@ -231,52 +132,95 @@ fn a_cell_of_the_field_index_is_missed(rt: HostRuntime) -> Result<(), Fail> {
     qualifier.extend_from_slice(doc(alloc, 1)?.as_slice())?;
     let missing = key(alloc, b"20240101_0", b"fi\0A", qualifier.as_slice(), b"", 1)?;
     let at = place_of(&mut keeper, 0, missing.as_slice()).ok_or("no cell")?;
-    let mut other = damaged(alloc, &mut keeper, 0, at, None)?;
+    let mut other = damaged(alloc, &mut keeper, 0, at, Harm::TakenOut)?;
     let verdict = audit(alloc, &mut other)?;
     assert!(rt; shows(&verdict, 0, missing.as_slice(), None, Some(b"")));
     Ok(())
 }
 
+/// Whether a verdict is the first difference of these cells.
+fn is_told(verdict: &Verdict, found: &[Put], wanted: &[Put]) -> bool {
+    let Some((is, should)) = difference(found, wanted) else {
+        return is_sound(verdict);
+    };
+    let Some(row) = is.or(should) else {
+        return false;
+    };
+    let is = is.map(|row| row.content.as_slice());
+    let should = should.map(|row| row.content.as_slice());
+    shows(verdict, row.table, row.key.as_slice(), is, should)
+}
+
+/// What the world of the plain store lacks once the cell at a place is harmed. Table 0 has two cells of the
+/// field index, A, ID and ID of 0-1, and A, B, B, ID and ID of 0-2; table 1 one list; table 3 the last number, the
+/// rule of A and the grant.
+fn lack_after(at: usize, harm: Harm<'_>) -> Lack {
+    match (at, harm) {
+        // An event has its cells whatever their content.
+        (2..=9, Harm::Changed(_)) => Lack::Nothing,
+        (2..=9, _) => Lack::Cell(at.saturating_sub(2)),
+        (12, _) => Lack::Rule,
+        (13, _) => Lack::Grant,
+        _ => Lack::Nothing,
+    }
+}
+
+/// Whether the verdict on the plain store with one cell harmed is the first difference from the store of the
+/// world that is left.
+fn is_told_of(alloc: Global, rows: &[Put], at: usize, harm: Harm<'_>) -> Result<bool, Fail> {
+    let found = rows_with(alloc, rows, at, harm)?;
+    let mut left = store_without(alloc, lack_after(at, harm))?;
+    let wanted = rows_of(alloc, &mut left)?;
+    let mut other = keeper_of(alloc, found.as_slice())?;
+    let verdict = audit(alloc, &mut other)?;
+    Ok(is_told(&verdict, found.as_slice(), wanted.as_slice()))
+}
+
 #[test]
-fn each_cell_is_taken_out(rt: HostRuntime) -> Result<(), Fail> {
+fn each_cell_is_harmed(rt: HostRuntime) -> Result<(), Fail> {
     let alloc = rt.alloc();
     let mut keeper = plain_store(alloc)?;
-    // Table 0 has two cells of the field index, A and ID of 0-1, and A, B twice and ID of 0-2; table 3 the last
-    // number, the field A and the grant. What no index names is not missed.
-    let wanted = [
-        (0, 0, Some((0, 0, false, true))),
-        (0, 1, Some((0, 1, false, true))),
-        (0, 2, Some((0, 0, true, false))),
-        (0, 3, None),
-        (0, 4, Some((0, 1, true, false))),
-        (0, 5, None),
-        (0, 6, None),
-        (0, 7, None),
-        (1, 0, Some((1, 0, false, true))),
-        (3, 0, Some((3, 0, false, true))),
-        (3, 1, Some((0, 0, true, false))),
-        (3, 2, None),
-    ];
-    for (table, at, place) in wanted {
-        let mut other = damaged(alloc, &mut keeper, table, at, None)?;
-        let verdict = audit(alloc, &mut other)?;
-        assert_eq!(rt; is_sound(&verdict), place.is_none());
-        assert!(rt; place_found(&mut keeper, &verdict) == place);
+    let rows = rows_of(alloc, &mut keeper)?;
+    assert_eq!(rt; rows.len(), 14);
+    for at in 0..14usize {
+        for harm in [Harm::TakenOut, Harm::Changed(b"?"), Harm::Spoilt] {
+            assert!(rt; is_told_of(alloc, rows.as_slice(), at, harm)?);
+        }
     }
     Ok(())
 }
 
 #[test]
-fn each_cell_is_changed(rt: HostRuntime) -> Result<(), Fail> {
+fn what_follows_from_a_cell_is_found(rt: HostRuntime) -> Result<(), Fail> {
     let alloc = rt.alloc();
     let mut keeper = plain_store(alloc)?;
-    for (table, count) in [(0u8, 8usize), (1, 1)] {
-        for at in 0..count {
-            let mut other = damaged(alloc, &mut keeper, table, at, Some(b"?"))?;
-            let verdict = audit(alloc, &mut other)?;
-            let place = place_found(&mut keeper, &verdict);
-            assert!(rt; place == Some((table, at, true, true)));
-        }
+    let wanted = [
+        (0, 1, Harm::TakenOut, Some((0, 1, false, true))),
+        // A is gone from 0-1 and from 0-2, and then its rule is: what the index has of it is too much.
+        (0, 2, Harm::TakenOut, Some((0, 0, true, false))),
+        (0, 5, Harm::TakenOut, Some((0, 1, true, false))),
+        (3, 1, Harm::TakenOut, Some((0, 0, true, false))),
+        // No index names an ID, and a grant stands for itself.
+        (0, 3, Harm::TakenOut, None),
+        (3, 2, Harm::TakenOut, None),
+        (
+            0,
+            5,
+            Harm::Changed(b"?".as_slice()),
+            Some((0, 5, true, true)),
+        ),
+        (
+            1,
+            0,
+            Harm::Changed(b"?".as_slice()),
+            Some((1, 0, true, true)),
+        ),
+    ];
+    for (table, at, harm, place) in wanted {
+        let mut other = damaged(alloc, &mut keeper, table, at, harm)?;
+        let verdict = audit(alloc, &mut other)?;
+        assert_eq!(rt; is_sound(&verdict), place.is_none());
+        assert!(rt; place_found(&mut keeper, &verdict) == place);
     }
     Ok(())
 }
@@ -418,7 +362,7 @@ fn list(alloc: Global, form: u8, both: bool) -> Result<Bytes, Fail> {
 /// The verdict on the plain store with these bytes in place of its one list.
 fn audit_of_list(alloc: Global, found: &[u8]) -> Result<Verdict, Fail> {
     let mut keeper = plain_store(alloc)?;
-    let mut other = damaged(alloc, &mut keeper, 1, 0, Some(found))?;
+    let mut other = damaged(alloc, &mut keeper, 1, 0, Harm::Changed(found))?;
     Ok(audit(alloc, &mut other)?)
 }
 
@@ -547,6 +491,7 @@ fn wide_store(alloc: Global, count: u32) -> Result<MemKeeper, Fail> {
         alloc,
         MemKeeper::new(alloc, Vec::new(alloc)),
         records.as_slice(),
+        true,
     )
 }
 
@@ -574,7 +519,7 @@ fn lists_are_read_in_runs(rt: HostRuntime) -> Result<(), Fail> {
             .eq([3, 0, 1, 1, 2].iter())
     );
     for at in [0usize, 1_023, 1_024, 1_029] {
-        let mut other = damaged(alloc, &mut keeper, 1, at, None)?;
+        let mut other = damaged(alloc, &mut keeper, 1, at, Harm::TakenOut)?;
         let verdict = audit(alloc, &mut other)?;
         assert!(rt; place_found(&mut keeper, &verdict) == Some((1, at, false, true)));
     }

@@ -6,7 +6,6 @@ pub mod UidListLemmas
 pub mod Spellings
 pub mod ReaderLemmas
 pub mod Rereading
-pub mod MetaLemmas
 pub mod MetaSpellings
 pub mod MetaTableLemmas
 pub mod IndexLemmas

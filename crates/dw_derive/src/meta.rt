@@ -1,11 +1,8 @@
 ghost use Rattle.std.specs.Prelude.{◌≡◌, ◌≢◌, ◌<◌, ◌^◌, ℕ, List, length, All, IfOk};
-ghost use Rattle.std.specs.Ordering.{nat_cmp};
-ghost use Rattle.std.specs.Cmp.Lexicographic.{slice_cmp};
-ghost use Rattle.dw_base.specs.Ascending.{set_of};
 ghost use Rattle.dw_dict.specs.Rules.{kind_number};
 ghost use Rattle.dw_derive.specs.Meta.{meta_slot, commit_slot, commit_bytes, field_slot, rule_bytes, grant_slot, names_bytes, put_at};
 
-use dw_base::{Bytes, Names, OutOfMemory, Sorted, Text};
+use dw_base::{Bytes, OutOfMemory, Text};
 use dw_dict::FieldRule;
 use dw_key::{Key, encode};
 use dw_norm::Kind;
@@ -34,13 +31,12 @@ pub fn field_cell(alloc: Global, field: &str, rule: FieldRule) -> Result<Put, Ou
     meta_put(alloc, b"field", field.as_bytes(), content)
 }
 
-/// The cell of what a caller was granted: the names ascending, each once.
-pub fn grant_cell(alloc: Global, caller: &str, names: &Names) -> Result<Put, OutOfMemory>
+/// The cell of what a caller was granted. A cell that is to be read again has the names ascending, each once.
+pub fn grant_cell(alloc: Global, caller: &str, names: &[Text]) -> Result<Put, OutOfMemory>
     requires { All (λ (name : List ℕ). length name < 2 ^ 16) names.now }
-    ensures { IfOk result (λ p. p ≡ put_at (grant_slot caller.now) (names_bytes (set_of (slice_cmp nat_cmp) names.now))) }
+    ensures { IfOk result (λ p. p ≡ put_at (grant_slot caller.now) (names_bytes names.now)) }
 {
-    let names = Sorted::from_vec(names.copy()?.into_vec());
-    let content = names_bytes(alloc, names.as_slice())?;
+    let content = names_bytes(alloc, names)?;
     meta_put(alloc, b"grant", caller.as_bytes(), content)
 }
 

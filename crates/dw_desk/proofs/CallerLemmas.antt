@@ -13,12 +13,14 @@ use Rattle.std.proofs.lemmas.Cmp.{nat_list_cmp_total}
 use Rattle.std.proofs.lemmas.Map.{lookup-set_value}
 use Rattle.std.proofs.lemmas.Map.Lookups.{exact_bytes}
 use Rattle.dw_desk.specs.declared.caller.Caller.{Caller}
-use Rattle.dw_eval.specs.declared.open_query.OpenQuery.{OpenQuery}
-use Rattle.dw_desk.specs.State.{Account, nobody, at_caller}
-use Rattle.dw_desk.specs.Accounts.{account, opened, closed}
-use Rattle.dw_desk.specs.Numbers.{last_number}
-use Rattle.dw_desk.specs.Desk.{account_of, SameAccounts, Changes, Gives}
-use Rattle.dw_desk.proofs.Entries.{nobody_closed}
+use Rattle.dw_desk.specs.declared.kept_query.KeptQuery.{KeptQuery}
+use Rattle.dw_desk.specs.State.{AccountOf, nobody, at_caller}
+use Rattle.dw_page.specs.declared.mark.Mark.{Mark}
+use Rattle.dw_desk.specs.Accounts.{entry_account, opened, closed, marked}
+use Rattle.dw_ingest.specs.Ingested.{last_number}
+use Rattle.dw_desk.specs.Stands.{kept_of}
+use Rattle.dw_desk.specs.Desk.{SameAccounts, Changes, Gives}
+use Rattle.dw_desk.proofs.Entries.{nobody_closed, none_marked_in}
 
 abbrev Callers : Type 0
 Callers = BTreeMap (List ℕ) Caller
@@ -30,8 +32,8 @@ abbrev is_name : List ℕ → List ℕ → Bool
 is_name name q = is_at (slice_cmp nat_cmp name) q
 
 -- what is kept, by what is found
-abbrev kept : Option Caller → Account
-kept o = option_map_or account o nobody
+abbrev kept : Option Caller → AccountOf KeptQuery
+kept o = option_map_or entry_account o nobody
 
 equal_is : (o : Ordering) → is_eq o ≡ true → o ≡ Equal
 equal_is Less e = cc
@@ -59,12 +61,12 @@ found_written m n name c d has at q =
     (λ x y e. ap (λ a. is_name a y) (same_name name x e)) q d m.entries (is_some_from (found m name) c has)
 
 kept_at : (m n : Callers) (q : List ℕ) (d : Caller) (b : Bool) → found n q ≡ cond b (Some d) (found m q)
-    → account_of n q ≡ cond b (account d) (account_of m q)
+    → kept_of n q ≡ cond b (entry_account d) (kept_of m q)
 kept_at m n q d true e = ap kept e
 kept_at m n q d false e = ap kept e
 
 -- the function with the value that it has at a caller
-pub unchanged : (f : List ℕ → Account) (name : List ℕ) → at_caller name (f name) f ≡ f
+pub unchanged : {A : Type 0} (f : List ℕ → A) (name : List ℕ) → at_caller name (f name) f ≡ f
 unchanged f name = fun_ext (λ q. at_q q (is_name name q) refl)
   where
     at_q : (q : List ℕ) (b : Bool) → is_name name q ≡ b → cond b (f name) (f q) ≡ f q
@@ -73,52 +75,58 @@ unchanged f name = fun_ext (λ q. at_q q (is_name name q) refl)
 
 -- one of whom nothing is kept changes nothing where no caller stood
 pub same_entered : (m n : Callers) (name : List ℕ) (d : Caller) → found m name ≡ None → ((q : List ℕ) → found n q ≡ cond (is_name name q) (Some d) (found m q))
-    → account d ≡ nobody → SameAccounts m n
+    → entry_account d ≡ nobody → SameAccounts m n
 same_entered m n name d none at is =
-    fun_ext (λ q. kept_at m n q d (is_name name q) (at q) ∙ ap (λ a. cond (is_name name q) a (account_of m q)) (is ∙ ap kept (sym none)))
-    ∙ unchanged (account_of m) name
+    fun_ext (λ q. kept_at m n q d (is_name name q) (at q) ∙ ap (λ a. cond (is_name name q) a (kept_of m q)) (is ∙ ap kept (sym none)))
+    ∙ unchanged (kept_of m) name
 
 -- a caller written back changes what is kept of him alone
-pub changes_written : (m n : Callers) (name : List ℕ) (c d : Caller) (f : Account → Account) → found m name ≡ Some c → n.entries ≡ set_value (is_name name) m.entries d
-    → account d ≡ f (account c) → Changes m n name f
+pub changes_written : (m n : Callers) (name : List ℕ) (c d : Caller) (f : AccountOf KeptQuery → AccountOf KeptQuery) → found m name ≡ Some c → n.entries ≡ set_value (is_name name) m.entries d
+    → entry_account d ≡ f (entry_account c) → Changes m n name f
 changes_written m n name c d f has at is =
     fun_ext (λ q. kept_at m n q d (is_name name q) (found_written m n name c d has at q)
-    ∙ ap (λ a. cond (is_name name q) a (account_of m q)) (is ∙ ap f (ap kept (sym has))))
+    ∙ ap (λ a. cond (is_name name q) a (kept_of m q)) (is ∙ ap f (ap kept (sym has))))
 
 pub same_written : (m n : Callers) (name : List ℕ) (c d : Caller) → found m name ≡ Some c → n.entries ≡ set_value (is_name name) m.entries d
-    → account d ≡ account c → SameAccounts m n
-same_written m n name c d has at is = changes_written m n name c d (λ a. a) has at is ∙ unchanged (account_of m) name
+    → entry_account d ≡ entry_account c → SameAccounts m n
+same_written m n name c d has at is = changes_written m n name c d (λ a. a) has at is ∙ unchanged (kept_of m) name
 
 pub same_then : (a b c : Callers) → SameAccounts a b → SameAccounts b c → SameAccounts a c
 same_then a b c x y = y ∙ x
 
-pub changes_then : (a b c : Callers) (name : List ℕ) (f : Account → Account) → SameAccounts a b → Changes b c name f → Changes a c name f
-changes_then a b c name f x y = y ∙ ap (λ (g : List ℕ → Account). at_caller name (f (g name)) g) x
+pub changes_then : (a b c : Callers) (name : List ℕ) (f : AccountOf KeptQuery → AccountOf KeptQuery) → SameAccounts a b → Changes b c name f → Changes a c name f
+changes_then a b c name f x y = y ∙ ap (λ (g : List ℕ → AccountOf KeptQuery). at_caller name (f (g name)) g) x
 
 -- what the caller answered, where it is written back
-pub gives_from : (old m n : Callers) (name : List ℕ) (c d : Caller) (query : OpenQuery) → SameAccounts old m
+pub gives_from : (old m n : Callers) (name : List ℕ) (c d : Caller) (query : KeptQuery) → SameAccounts old m
     → found m name ≡ Some c → n.entries ≡ set_value (is_name name) m.entries d → (o : Option ℕ)
-    → MatchOption o ((c.given ≡ last_number) × (account d ≡ account c))
-    (λ number. (c.given ≢ last_number) × (number ≡ c.given + 1) × (account d ≡ opened query (account c)))
+    → MatchOption o ((c.given ≡ last_number) × (entry_account d ≡ entry_account c))
+    (λ number. (c.given ≢ last_number) × (number ≡ c.given + 1) × (entry_account d ≡ opened query (entry_account c)))
     → Gives old n name query o
 gives_from old m n name c d query same has at None h =
-    let had : account_of old name ≡ account c = ap (λ (g : List ℕ → Account). g name) (sym same) ∙ ap kept has in
-    (ap (λ (a : Account). a.given) had ∙ h.0, same_then old m n same (same_written m n name c d has at h.1))
+    let had : kept_of old name ≡ entry_account c = ap (λ (g : List ℕ → AccountOf KeptQuery). g name) (sym same) ∙ ap kept has in
+    (ap (λ (a : AccountOf KeptQuery). a.given) had ∙ h.0, same_then old m n same (same_written m n name c d has at h.1))
 gives_from old m n name c d query same has at (Some number) h =
-    let had : account_of old name ≡ account c = ap (λ (g : List ℕ → Account). g name) (sym same) ∙ ap kept has in (
-      (λ e. h.0 (ap (λ (a : Account). a.given) (sym had) ∙ e)),
-      h.1 ∙ ap (λ (a : Account). a.given + 1) (sym had),
+    let had : kept_of old name ≡ entry_account c = ap (λ (g : List ℕ → AccountOf KeptQuery). g name) (sym same) ∙ ap kept has in (
+      (λ e. h.0 (ap (λ (a : AccountOf KeptQuery). a.given) (sym had) ∙ e)),
+      h.1 ∙ ap (λ (a : AccountOf KeptQuery). a.given + 1) (sym had),
       changes_then old m n name (opened query) same (changes_written m n name c d (opened query) has at h.2),
     )
 
 -- a query of one of whom nothing is kept
-pub none_open : (m : Callers) (name : List ℕ) (number : ℕ) → found m name ≡ None → false ≡ is_some ((account_of m name).queries number)
-none_open m name number none = ap (λ (a : Account). is_some (a.queries number)) (ap kept (sym none))
+pub none_open : (m : Callers) (name : List ℕ) (number : ℕ) → found m name ≡ None → false ≡ is_some ((kept_of m name).queries number)
+none_open m name number none = ap (λ (a : AccountOf KeptQuery). is_some (a.queries number)) (ap kept (sym none))
 
 pub none_closed : (m : Callers) (name : List ℕ) (number : ℕ) → found m name ≡ None → Changes m m name (closed number)
 none_closed m name number none =
-    sym (unchanged (account_of m) name)
-    ∙ ap (λ a. at_caller name a (account_of m)) (ap kept none ∙ sym (nobody_closed number) ∙ ap (closed number) (ap kept (sym none)))
+    sym (unchanged (kept_of m) name)
+    ∙ ap (λ a. at_caller name a (kept_of m)) (ap kept none ∙ sym (nobody_closed number) ∙ ap (closed number) (ap kept (sym none)))
 
-pub some_open : (m : Callers) (name : List ℕ) (number : ℕ) (c : Caller) (b : Bool) → found m name ≡ Some c → b ≡ is_some ((account c).queries number) → b ≡ is_some ((account_of m name).queries number)
-some_open m name number c b has e = e ∙ ap (λ (a : Account). is_some (a.queries number)) (ap kept (sym has))
+pub some_open : (m : Callers) (name : List ℕ) (number : ℕ) (c : Caller) (b : Bool) → found m name ≡ Some c → b ≡ is_some ((entry_account c).queries number) → b ≡ is_some ((kept_of m name).queries number)
+some_open m name number c b has e = e ∙ ap (λ (a : AccountOf KeptQuery). is_some (a.queries number)) (ap kept (sym has))
+
+-- one of whom nothing is kept has no query to mark
+pub none_marked : (m : Callers) (name : List ℕ) (number : ℕ) (mark : Mark) → found m name ≡ None → Changes m m name (marked number mark)
+none_marked m name number mark none =
+    sym (unchanged (kept_of m) name)
+    ∙ ap (λ a. at_caller name a (kept_of m)) (ap kept none ∙ sym (none_marked_in number mark nobody refl) ∙ ap (marked number mark) (ap kept (sym none)))

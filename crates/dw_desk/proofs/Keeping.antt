@@ -1,7 +1,6 @@
 -- On what each step keeps: the order of the events, their batches, and the numbers of queries.
 use Rattle.std.proofs.Common.{◌≡◌, ◌≤◌, ◌<◌, ◌+◌, ◌==◌, ◌&&◌, ◌||◌, ◌∷◌, [], ℕ, Bool, true, false, cond, nat_lt, nat_le, List, filter, Option, Some, None, IfSome, Result, Ok, Err, refl, sym, ap, ◌∙◌, subst, inl, inr, arith, le_trans, le_refl}
 use Rattle.std.specs.List.{AllByRecursion}
-use Rattle.std.specs.List.Sorted.{IsStrictlySortedBy}
 use Rattle.std.specs.declared.cmp.Ordering.{Ordering}
 use Rattle.std.specs.declared.cmp.Ordering.TheVariants.{Less, Equal, Greater}
 use Rattle.std.specs.Ordering.{nat_cmp, match_ordering}
@@ -26,8 +25,10 @@ use Rattle.dw_eval.specs.declared.nquery.NQuery.{NQuery}
 use Rattle.dw_eval.specs.declared.open_query.OpenQuery.{OpenQuery}
 use Rattle.dw_eval.specs.Bound.{bound}
 use Rattle.dw_plan.specs.Anchored.{anchored}
-use Rattle.dw_desk.specs.Numbers.{last_number}
+use Rattle.dw_ingest.specs.Ingested.{last_number}
 use Rattle.dw_event.specs.Take.{Event}
+use Rattle.dw_derive.specs.World.{World}
+use Rattle.dw_derive.specs.Lawful.{IsWorld}
 use Rattle.dw_desk.specs.State.{Account, State, start, at_caller}
 use Rattle.dw_desk.specs.Accounts.{opened, closed}
 use Rattle.dw_event.specs.Take.{Taken, none_taken, with_held, with_record, with_records, held_at}
@@ -124,7 +125,7 @@ record Holds (w : State) : Type 0 where
   batches : Upto w.world.last w.world.events
   accounts : (caller : List ℕ) → IsCurrent w.world.last (w.accounts caller)
 
-if_some_weaker : (o : Option OpenQuery) (P Q : OpenQuery → Type 0) → ((q : OpenQuery) → P q → Q q) → IfSome o P → IfSome o Q
+pub if_some_weaker : (o : Option OpenQuery) (P Q : OpenQuery → Type 0) → ((q : OpenQuery) → P q → Q q) → IfSome o P → IfSome o Q
 if_some_weaker None P Q f h = tt
 if_some_weaker (Some q) P Q f h = f q h
 
@@ -164,7 +165,7 @@ account_holds w caller a h k = record {
 
 last_at : (b : Bool) (w : State) (t : Taken) → nat_lt 0 t.new ≡ b → Takes (w.world.last + 1) (none_taken w.world.events) t → Holds w
     → let last : ℕ = cond b (w.world.last + 1) w.world.last in
-    let next : State = record { world = record { events = t.events; dict = w.world.dict; grants = w.world.grants; last = last }; accounts = w.accounts } in Holds next
+    let next : State = record { world = record { events = t.events; dict = w.world.dict; grants = w.world.grants; last = last; old = w.world.old }; accounts = w.accounts } in Holds next
 last_at true w t e x h = record {
   batches = x.upto (upto_later w.world.last (w.world.last + 1) w.world.events (omega arith) h.batches);
   accounts = λ caller. current_later w.world.last (w.world.last + 1) (w.accounts caller) (omega arith) (h.accounts caller);
@@ -231,9 +232,12 @@ session_keeps digest w [] (t ∷ ts) last faults s h = absurd h
 session_keeps digest w (r ∷ rs) [] last faults s h = absurd h
 session_keeps digest w (r ∷ rs) (t ∷ ts) last faults s h = session_keeps digest h.0 rs ts last h.2 (answers_keep digest w h.0 r t h.1 s h.3) h.4
 
-start_kept : IsKept start
-unfolding IsStrictlySortedBy
-start_kept = record { ascends = tt; batches = All-from_recursion (λ (e : Event). e.1.batch ≤ 0) [] tt; accounts = λ caller number. tt }
+start_kept : (w : World) → IsWorld w → IsKept (start w)
+start_kept w is = record {
+  ascends = is.events.ascend;
+  batches = All-from_recursion (λ (e : Event). e.1.batch ≤ w.last) w.events is.batches;
+  accounts = λ caller number. tt;
+}
 
 pub sessions_keep : SessionsKeep
-sessions_keep digest rs texts last faults h = session_keeps digest start rs texts last faults start_kept h
+sessions_keep digest w rs texts last faults is h = session_keeps digest (start w) rs texts last faults (start_kept w is) h

@@ -25,7 +25,7 @@ use Rattle.dw_eval.specs.declared.open_query.OpenQuery.{OpenQuery}
 use Rattle.dw_eval.specs.Bound.{bound}
 use Rattle.dw_wire.specs.declared.request.Request.TheVariants.{Define, Grant, Ingest, Create, Page, Close}
 use Rattle.dw_plan.specs.Anchored.{anchored}
-use Rattle.dw_desk.specs.Numbers.{last_number}
+use Rattle.dw_ingest.specs.Ingested.{last_number}
 use Rattle.dw_event.specs.Take.{Event}
 use Rattle.dw_desk.specs.State.{State}
 use Rattle.dw_event.specs.Take.{Taken, none_taken, with_held, with_record, with_records, held_at}

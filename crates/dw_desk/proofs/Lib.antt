@@ -3,9 +3,14 @@ pub mod Entries
 pub mod CallerLemmas
 pub mod DeskLemmas
 pub mod Granting
-pub mod Finding
-pub mod Paging
+pub mod MetaSaid
 pub mod LawLemmas
 pub mod Keeping
 pub mod Staying
+pub mod Standing
+pub mod Doing
+pub mod StoredCells
+pub mod ReadLemmas
 pub mod Telling
+pub mod Leaving
+pub mod Isolating

@@ -16,7 +16,7 @@ use Rattle.dw_eval.specs.declared.nquery.NQuery.{NQuery}
 use Rattle.dw_eval.specs.declared.open_query.OpenQuery.{OpenQuery}
 use Rattle.dw_eval.specs.Bound.{bound}
 use Rattle.dw_plan.specs.Anchored.{anchored}
-use Rattle.dw_desk.specs.Numbers.{last_number}
+use Rattle.dw_ingest.specs.Ingested.{last_number}
 use Rattle.dw_event.specs.Take.{Event}
 use Rattle.dw_desk.specs.State.{Account, State, at_caller}
 use Rattle.dw_desk.specs.Accounts.{opened, closed}

@@ -8,6 +8,8 @@ use Rattle.dw_wire.specs.declared.request.Request.TheVariants.{Page, Close}
 use Rattle.dw_wire.specs.declared.reply.Reply.TheVariants.{StoreFault, OutOfMemory}
 use Rattle.dw_wire.specs.ReplyText.{reply_text}
 use Rattle.dw_eval.specs.declared.open_query.OpenQuery.{OpenQuery}
+use Rattle.dw_derive.specs.World.{World}
+use Rattle.dw_derive.specs.Lawful.{IsWorld}
 use Rattle.dw_desk.specs.State.{Account, State, start}
 use Rattle.dw_eval.specs.Answer.{answer_of}
 use Rattle.dw_desk.specs.Step.{step}
@@ -34,9 +36,9 @@ pub record IsKept (s : State) : Type 0 where
 abbrev pub StepsKeep : Type 0
 StepsKeep = (digest : Digest) (s : State) (request : Asked) → IsKept s → IsKept (step digest s request).state
 
--- it holds of each state that answers to requests leave
+-- it holds of each state that answers to requests leave, from a lawful world on
 abbrev pub SessionsKeep : Type 0
-SessionsKeep = (digest : Digest) (rs : List Asked) (texts : List (List ℕ)) (last : State) (faults : ℕ) → Session digest start rs texts last faults → IsKept last
+SessionsKeep = (digest : Digest) (w : World) (rs : List Asked) (texts : List (List ℕ)) (last : State) (faults : ℕ) → IsWorld w → Session digest (start w) rs texts last faults → IsKept last
 
 -- ---- open queries
 

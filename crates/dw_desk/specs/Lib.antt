@@ -1,11 +1,10 @@
-pub mod Numbers
-pub mod World
 pub mod State
 pub mod Accounts
-pub mod Found
 pub mod Step
-pub mod Batches
-pub mod Standing
-pub mod Session
+pub mod Stands
 pub mod Desk
+pub mod Reads
+pub mod Session
+pub mod Loading
 pub mod Laws
+pub mod Isolation

@@ -1,12 +1,12 @@
 -- Requests that are answered one after another, and the text of each answer.
-use Rattle.std.specs.Prelude.{◌≡◌, ◌+◌, ◌&&◌, ◌⊎◌, not, ℕ, Bool, true, false, IsTrue, List, [], ◌∷◌, Result, Ok, Err}
+use Rattle.std.specs.Prelude.{◌≡◌, ◌+◌, ◌⊎◌, ℕ, IsTrue, List, [], ◌∷◌, Result}
 use Rattle.dw_wire.specs.declared.request.Request.{Request}
-use Rattle.dw_wire.specs.declared.request.Request.TheVariants.{Define, Grant, Ingest, Create, Page, Close}
 use Rattle.dw_wire.specs.declared.request.Why.{Why}
 use Rattle.dw_wire.specs.declared.reply.Reply.{Reply}
-use Rattle.dw_wire.specs.declared.reply.Reply.TheVariants.{Defined, Granted, Ingested, Created, Paged, Closed, Malformed, NotOwned, NotEmpty, Unanchored, Spent, StoreFault, OutOfMemory}
+use Rattle.dw_wire.specs.declared.reply.Reply.TheVariants.{StoreFault, OutOfMemory}
 use Rattle.dw_wire.specs.ReplyText.{reply_text}
 use Rattle.dw_desk.specs.State.{State}
+use Rattle.dw_desk.specs.Desk.{may_fail}
 use Rattle.dw_desk.specs.Step.{step}
 
 -- how a uid is made of the canonical bytes of a record
@@ -17,35 +17,9 @@ Digest = List ℕ → List ℕ
 abbrev pub Asked : Type 0
 Asked = Result Request Why
 
--- the requests for which the store is written or events are read
-abbrev pub uses_store : Asked → Bool
-uses_store (Err why) = false
-uses_store (Ok (Define field rule)) = true
-uses_store (Ok (Grant caller names)) = true
-uses_store (Ok (Ingest records)) = true
-uses_store (Ok (Create caller query days types size asked)) = false
-uses_store (Ok (Page caller number page)) = true
-uses_store (Ok (Close caller number)) = false
-
--- the refusals that need no store
-abbrev pub is_refusal : Reply → Bool
-is_refusal Defined = false
-is_refusal Granted = false
-is_refusal (Ingested report) = false
-is_refusal (Created number) = false
-is_refusal (Paged shown more) = false
-is_refusal Closed = false
-is_refusal (Malformed why) = true
-is_refusal NotOwned = true
-is_refusal NotEmpty = true
-is_refusal Unanchored = true
-is_refusal Spent = false
-is_refusal StoreFault = false
-is_refusal OutOfMemory = false
-
--- a request which the store may fail: one for which it is used, unless the step refuses it without the store
+-- a request which the store may fail
 abbrev pub MayFail : Asked → Reply → Type 0
-MayFail request reply = IsTrue (uses_store request && not (is_refusal reply))
+MayFail request reply = IsTrue (may_fail request reply)
 
 -- the text is that of the step's reply, and the state after it the step's
 abbrev pub IsStep : Digest → State → Asked → List ℕ → State → ℕ → Type 0

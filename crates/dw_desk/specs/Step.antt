@@ -1,13 +1,12 @@
 -- The machine: what it answers to a request, and what it is afterwards.
 use Rattle.std.specs.Prelude.{ℕ, ◌+◌, ◌==◌, ◌&&◌, ◌||◌, nat_lt, List, Option, Some, None, Result, Ok, Err, if◌then◌else◌}
-use Rattle.std.specs.FinMap as map
 use Rattle.dw_vis.specs.Names.{common_names}
 use Rattle.dw_dict.specs.Rules.{widens}
 use Rattle.dw_dict.specs.Dictionary.{rule_of}
 use Rattle.dw_dict.specs.declared.rule.FieldRule.{FieldRule}
 use Rattle.dw_event.specs.declared.days.Days.{Days}
 use Rattle.dw_event.specs.declared.types.Types.{Types}
-use Rattle.dw_event.specs.Take.{Taken, taken, last_after, report_of}
+use Rattle.dw_event.specs.Take.{Taken, taken, report_of}
 use Rattle.dw_event.specs.Pages.{page_items, has_more}
 use Rattle.dw_eval.specs.declared.nquery.NQuery.{NQuery}
 use Rattle.dw_eval.specs.declared.open_query.OpenQuery.{OpenQuery}
@@ -20,9 +19,10 @@ use Rattle.dw_wire.specs.declared.request.Why.{Why}
 use Rattle.dw_wire.specs.declared.request.Why.TheVariants.{Literal}
 use Rattle.dw_wire.specs.declared.reply.Reply.{Reply}
 use Rattle.dw_wire.specs.declared.reply.Reply.TheVariants.{Defined, Granted, Ingested, Created, Paged, Closed, Malformed, NotOwned, NotEmpty, Unanchored, Spent}
-use Rattle.dw_desk.specs.Numbers.{last_number}
-use Rattle.dw_desk.specs.World.{World, granted_to}
-use Rattle.dw_desk.specs.State.{Account, State, at_caller}
+use Rattle.dw_derive.specs.World.{World}
+use Rattle.dw_derive.specs.MetaTables.{with_rule, with_grant}
+use Rattle.dw_ingest.specs.Ingested.{after_taken, last_number}
+use Rattle.dw_desk.specs.State.{Account, State, at_caller, granted_to}
 use Rattle.dw_desk.specs.Accounts.{opened, closed}
 
 -- an answer, and the state after it
@@ -42,18 +42,6 @@ with_world s w = record { world = w; accounts = s.accounts }
 abbrev pub with_caller : State → List ℕ → (Account → Account) → State
 with_caller s caller change = record { world = s.world; accounts = at_caller caller (change (s.accounts caller)) s.accounts }
 
--- the world with the rule of a field set
-abbrev pub with_rule : World → List ℕ → FieldRule → World
-with_rule w field rule = record { events = w.events; dict = map.insert w.dict field rule; grants = w.grants; last = w.last }
-
--- the world with a caller's names replaced
-abbrev pub with_grant : World → List ℕ → List (List ℕ) → World
-with_grant w caller names = record { events = w.events; dict = w.dict; grants = map.insert w.grants caller names; last = w.last }
-
--- the world after records were taken
-abbrev pub with_taken : World → Taken → World
-with_taken w t = record { events = t.events; dict = w.dict; grants = w.grants; last = last_after w.last t }
-
 -- the rule is set, unless a batch was taken and the rule does not widen the present one
 abbrev pub defined : State → List ℕ → FieldRule → Outcome
 defined s field rule =
@@ -66,7 +54,7 @@ abbrev pub ingested : State → Taken → Outcome
 ingested s t =
     if nat_lt 0 t.new && (s.world.last == last_number)
     then refused s Spent
-    else record { reply = Ingested (report_of s.world.last t); state = with_world s (with_taken s.world t) }
+    else record { reply = Ingested (report_of s.world.last t); state = with_world s (after_taken s.world t) }
 
 -- the names that a query is for: those granted, or those of them that are asked for
 abbrev pub allowed : List (List ℕ) → Option (List (List ℕ)) → List (List ℕ)

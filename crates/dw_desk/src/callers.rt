@@ -2,13 +2,15 @@ ghost use Rattle.std.specs.Prelude.{◌≡◌, IfOk, OnOk, OnErr, is_some};
 ghost use Rattle.std.specs.Cmp.Lexicographic.{slice_cmp};
 ghost use Rattle.std.specs.Ordering.{nat_cmp};
 ghost use Rattle.std.specs.BTreeMap.{ContainsKey};
-ghost use Rattle.dw_desk.specs.Accounts.{closed};
-ghost use Rattle.dw_desk.specs.Desk.{account_of, Changes, Gives, SameAccounts};
+ghost use Rattle.dw_desk.specs.Accounts.{closed, marked};
+ghost use Rattle.dw_desk.specs.Stands.{kept_of};
+ghost use Rattle.dw_desk.specs.Desk.{Changes, Gives, SameAccounts};
 
 use crate::OutOfMemory;
 use crate::caller::Caller;
-use dw_eval::OpenQuery;
-use dw_key::Text;
+use crate::kept_query::KeptQuery;
+use dw_base::Text;
+use dw_page::Mark;
 use std::alloc::Global;
 use std::collections::BTreeMap;
 
@@ -32,7 +34,7 @@ pub fn give(
     alloc: Global,
     callers: &mut BTreeMap<Text, Caller>,
     name: &Text,
-    query: OpenQuery,
+    query: KeptQuery,
 ) -> Result<Option<u64>, OutOfMemory>
     ensures gives { IfOk result (Gives callers.old callers.new name.now query) }
     ensures err { OnErr result (SameAccounts callers.old callers.new) }
@@ -44,9 +46,19 @@ pub fn give(
     }
 }
 
+/// Sets the mark of the caller's query of a number, where there is one. Takes no memory.
+pub fn set_mark(callers: &mut BTreeMap<Text, Caller>, name: &Text, number: u64, mark: Mark)
+    ensures { Changes callers.old callers.new name.now (marked number mark) }
+{
+    match callers.get_mut(name) {
+        Some(caller) => caller.set_mark(number, mark),
+        None => (),
+    }
+}
+
 /// Drops the caller's query of a number, and says whether there was one.
 pub fn close(callers: &mut BTreeMap<Text, Caller>, name: &Text, number: u64) -> bool
-    ensures found { result ≡ is_some ((account_of callers.old name.now).queries number) }
+    ensures found { result ≡ is_some ((kept_of callers.old name.now).queries number) }
     ensures closed { Changes callers.old callers.new name.now (closed number) }
 {
     match callers.get_mut(name) {

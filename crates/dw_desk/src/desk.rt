@@ -1,81 +1,147 @@
-ghost use Rattle.std.specs.Prelude.{◌≡◌, ◌↔◌, ◌+◌, ◌-◌, ◌^◌, ◌<◌, ◌≤◌, ◌==◌, ◌||◌, true, [], IsTrue, length, Some, None, Ok, IfOk, MatchOption};
+ghost use Rattle.std.specs.Prelude.{◌≡◌, ◌≢◌, ◌↔◌, ◌+◌, ◌-◌, ◌^◌, ◌<◌, ◌≤◌, ◌==◌, ◌||◌, not, true, false, IsTrue, ℕ, Bool, List, [], length, Some, None, Ok, Err, IfOk, OnOk, MatchOption};
 ghost use Rattle.std.specs.Option.{option_copied};
-ghost use Rattle.dw_desk.specs.Batches.{are_before};
+ghost use Rattle.std.specs.FinMap as map;
+ghost use Rattle.dw_outside.specs.Faults.{Rose};
+ghost use Rattle.dw_outside.specs.Reads.{reading_of, with_read};
+ghost use Rattle.dw_outside.specs.declared.keeper_error.KeeperError.{KeeperError};
+ghost use Rattle.dw_derive.specs.World.{World};
+ghost use Rattle.dw_derive.specs.Tables.{tables};
+ghost use Rattle.dw_derive.specs.Lawful.{IsWorld};
+ghost use Rattle.dw_event.specs.Take.{taken};
+ghost use Rattle.dw_eval.specs.Bound.{bound};
+ghost use Rattle.dw_dict.specs.Rules.{widens};
+ghost use Rattle.dw_dict.specs.Dictionary.{rule_of};
+ghost use Rattle.dw_plan.specs.Anchored.{anchored as is_anchored};
+ghost use Rattle.dw_plan.specs.PlanLaws.{is_ruled};
 
 use crate::OutOfMemory;
 use crate::caller::Caller;
-use crate::callers::{close, give};
-use crate::grants::{granted, put_grant};
-use crate::page::page_of;
-use crate::take::{Tally, take_batch};
+use crate::callers::{close, give, set_mark};
+use crate::grants::{granted, may_be_granted, store_grant};
+use crate::kept_query::{AnchoredAsk, KeptQuery};
+use crate::loading::{Start, read_start};
+use crate::storing::{refusal, store_rule};
+use dw_base::Text;
+use dw_derive::{grants_are_cells, grants_keep_worlds};
 use dw_dict::{Dict, FieldRule};
-use dw_eval::{BindError, NQuery, OpenQuery, bind};
-use dw_event::{Days, Held, Place, Report, Types, UidMaker};
+use dw_eval::{BindError, NQuery, bind};
+use dw_event::{Days, Types, UidMaker};
+use dw_ingest::{IngestError, ingest};
 use dw_jexl::Query;
-use dw_key::Text;
-use dw_plan::anchored;
+use dw_outside::{Keeper, KeeperError};
+use dw_page::{Settings, Turned, turn_page};
+use dw_plan::{anchored, bound_are_ruled};
+use dw_pool::Gate;
+use dw_scan::Ask;
 use dw_vis::Auths;
 use dw_wire::{Records, Reply, Request, Why};
 use std::alloc::Global;
 use std::collections::BTreeMap;
+use std::thread::Threads;
 
-/// The state of the machine: the events, the number of the last batch, the rules of fields, the names that
-/// callers are granted, and what is kept of each caller.
+/// The state of the machine beside its tables: the number of the last batch, the rules of fields, the names that callers are
+/// granted, and what is kept of each caller. It holds no event.
 #[derive(Debug, Drop)]
 pub struct Desk {
-    events: BTreeMap<Place, Held>,
     last: u64,
     dict: Dict,
     grants: BTreeMap<Text, Auths>,
     callers: BTreeMap<Text, Caller>,
     ghost within: { last ≤ 2 ^ 63 - 1 },
-    ghost batches: { IsTrue (are_before (last + 1) events.entries) },
 }
 
 impl Desk {
-    ghost use Rattle.dw_desk.specs.World.{granted_to};
-    ghost use Rattle.dw_desk.specs.State.{start};
-    ghost use Rattle.dw_desk.specs.Step.{step, allowed, asked_for, created, defined, dropped, paged, query_of};
-    ghost use Rattle.dw_desk.specs.Desk.{state_of, account_of, grants_of, is_owned, IsOutcome, Meets, Replies};
-    ghost use Rattle.dw_eval.specs.Bound.{bound};
-    ghost use Rattle.dw_dict.specs.Rules.{widens};
-    ghost use Rattle.dw_dict.specs.Dictionary.{rule_of};
+    ghost use Rattle.dw_desk.specs.State.{granted_to, start};
+    ghost use Rattle.dw_desk.specs.Step.{allowed, asked_for, created, defined, dropped, ingested, paged, query_of, with_world};
+    ghost use Rattle.dw_desk.specs.Stands.{AreMarked, HasRules, Holds, IsMarkedIn, Stands, account_of, grants_of, kept_of, state_of};
+    ghost use Rattle.dw_desk.specs.Accounts.{query_kept};
+    ghost use Rattle.dw_desk.specs.Reads.{PageReads, defines, page_asked, reads_nothing, with_definition, with_rule_reads};
+    ghost use Rattle.dw_desk.specs.declared.kept_query.KeptQuery.{KeptQuery};
+    ghost use Rattle.dw_event.specs.declared.reports.Shown.{Shown};
+    ghost use Rattle.dw_desk.specs.Desk.{Answered, Does, IsFormed, IsOutcome, IsSame, KeepsRules, Meets, Replies, SameAccounts, is_done, is_accepted};
+    ghost use Rattle.dw_base.specs.Callers.{is_caller};
+    ghost use Rattle.dw_base.specs.FieldNames.{is_folded_name};
+    ghost use Rattle.dw_derive.specs.MetaTables.{with_grant};
+    ghost use Rattle.dw_ingest.specs.Going.{AreWellFormed};
+    ghost use Rattle.dw_wire.specs.WellFormed.{IsAuthSet};
+    ghost use Rattle.dw_wire.specs.declared.reply.Reply.TheVariants.{Granted};
 
-    pub fn new(alloc: Global) -> Desk
-        ensures { state_of result ≡ start }
+    /// The desk that stands for the world of a keeper's tables, with no query open. Reads table 3 alone, and leaves the tables as
+    /// they are.
+    pub fn load<K: Keeper>(alloc: Global, keeper: &mut K) -> Result<Desk, KeeperError>
+        ensures stands { (w : World) → IsWorld w → K.told keeper.old ≡ Some (tables w) → IfOk result (λ d. Stands (K.told keeper.new) d w × (state_of w d ≡ start w)) }
+        ensures told { K.told keeper.new ≡ K.told keeper.old }
+        ensures read { OnOk result (K.reads keeper.new ≡ with_read (K.reads keeper.old) (reading_of 3 [] [] 0)) }
+        ensures counted { K.faults keeper.old ≤ K.faults keeper.new }
+        ensures failed { result ≡ Err KeeperError.Failed → Rose (K.faults keeper.old) (K.faults keeper.new) }
     {
-        Desk {
-            events: BTreeMap::new(alloc),
-            last: 0,
-            dict: Dict::new(alloc),
-            grants: BTreeMap::new(alloc),
+        let Start { dict, grants, last } = read_start(alloc, keeper)?;
+        Ok(Desk {
+            last,
+            dict,
+            grants,
             callers: BTreeMap::new(alloc),
-        }
+        })
     }
 
-    /// Answers one request. Want of memory is a reply, which changes nothing, and which never comes to a line
-    /// that is no request, to a page of a query that is not the caller's, or to a close.
-    pub fn answer<U: UidMaker>(
+    /// Answers one request. Want of memory and a fault of the store are replies, which change nothing.
+    pub fn answer<R: Threads + Sync, K: Keeper, U: UidMaker, G: Gate>(
         &mut self,
+        rt: &R,
         alloc: Global,
+        keeper: &mut K,
         uids: &U,
+        gate: &G,
+        settings: &Settings,
         request: &Result<Request, Why>,
     ) -> Reply
-        ensures { Replies U.digest (state_of self.old) request.now result (state_of self.new) }
+        ensures answered { (w : World) → Stands (K.told keeper.old) self.old w → IsFormed request.now → Answered (K.told keeper.new) self.new (Replies U.digest (state_of w self.old) request.now result) }
+        ensures refused { is_done result ≡ false → IsSame self.old self.new }
+        ensures untold { is_done result ≡ false → K.told keeper.new ≡ K.told keeper.old }
+
+        // Which reads it makes.
+        ensures unread { reads_nothing (request.now) ≡ true → K.reads keeper.new ≡ K.reads keeper.old }
+        ensures defined { defines (request.now) ≡ true → result ≡ Reply.Defined → K.reads keeper.new ≡ with_definition self.old (request.now) (K.reads keeper.old) }
+        ensures undefined { defines (request.now) ≡ true → result ≡ Reply.NotEmpty → K.reads keeper.new ≡ K.reads keeper.old }
+        ensures paged { (w : World) (p : KeptQuery × ℕ) (shown : List Shown) (more : Bool) → Stands (K.told keeper.old) self.old w → page_asked self.old.callers (request.now) ≡ Some p → 1 ≤ p.1 → result ≡ Reply.Paged shown more →
+            PageReads w p settings.now.workers (K.reads keeper.old) (K.reads keeper.new) }
+
+        ensures counted { K.faults keeper.old ≤ K.faults keeper.new }
+        ensures failed { result ≡ Reply.StoreFault → Rose (K.faults keeper.old) (K.faults keeper.new) }
     {
+        bound_are_ruled();
         match request {
             Err(why) => Reply::Malformed { why: *why },
-            Ok(request) => self.carry_out(alloc, uids, request),
+            Ok(request) => self.carry_out(rt, alloc, keeper, uids, gate, settings, request),
         }
     }
 
-    fn carry_out<U: UidMaker>(&mut self, alloc: Global, uids: &U, request: &Request) -> Reply
-        ensures { Replies U.digest (state_of self.old) (Ok request.now) result (state_of self.new) }
+    fn carry_out<R: Threads + Sync, K: Keeper, U: UidMaker, G: Gate>(
+        &mut self,
+        rt: &R,
+        alloc: Global,
+        keeper: &mut K,
+        uids: &U,
+        gate: &G,
+        settings: &Settings,
+        request: &Request,
+    ) -> Reply
+        ensures marks { (w : World) → Stands (K.told keeper.old) self.old w → AreMarked w self.new.callers }
+        ensures does { (w : World) → Stands (K.told keeper.old) self.old w → IsFormed (Ok request.now) → Does (K.told keeper.new) self.new w (Replies U.digest (state_of w self.old) (Ok request.now) result) }
+        ensures refused { is_done result ≡ false → IsSame self.old self.new }
+        ensures untold { is_done result ≡ false → K.told keeper.new ≡ K.told keeper.old }
+        ensures unread { reads_nothing (Ok request.now) ≡ true → K.reads keeper.new ≡ K.reads keeper.old }
+        ensures defined { defines (Ok request.now) ≡ true → result ≡ Reply.Defined → K.reads keeper.new ≡ with_definition self.old (Ok request.now) (K.reads keeper.old) }
+        ensures undefined { defines (Ok request.now) ≡ true → result ≡ Reply.NotEmpty → K.reads keeper.new ≡ K.reads keeper.old }
+        ensures paged { (w : World) (p : KeptQuery × ℕ) (shown : List Shown) (more : Bool) → Stands (K.told keeper.old) self.old w → page_asked self.old.callers (Ok request.now) ≡ Some p → 1 ≤ p.1 → result ≡ Reply.Paged shown more →
+            PageReads w p settings.now.workers (K.reads keeper.old) (K.reads keeper.new) }
+        ensures counted { K.faults keeper.old ≤ K.faults keeper.new }
+        ensures failed { result ≡ Reply.StoreFault → Rose (K.faults keeper.old) (K.faults keeper.new) }
     {
         match request {
-            Request::Define { field, rule } => self.define(field, *rule),
-            Request::Grant { caller, auths } => self.grant(caller, auths),
-            Request::Ingest { records } => self.ingest(alloc, uids, records),
+            Request::Define { field, rule } => self.define(alloc, keeper, field, *rule),
+            Request::Grant { caller, auths } => self.grant(alloc, keeper, caller, auths),
+            Request::Ingest { records } => self.ingest(alloc, keeper, uids, records),
             Request::Create {
                 caller,
                 query,
@@ -88,7 +154,7 @@ impl Desk {
                 caller,
                 number,
                 page,
-            } => self.page(alloc, caller, *number, *page),
+            } => self.page(rt, alloc, keeper, gate, settings, caller, *number, *page),
             Request::Close { caller, number } => self.close(caller, *number),
         }
     }
@@ -100,46 +166,106 @@ impl Desk {
         self.last == 0 || rule.widens(&self.dict.look(field.as_str()))
     }
 
-    fn define(&mut self, field: &Text, rule: FieldRule) -> Reply
-        ensures { Meets true (defined (state_of self.old) field.now rule) (state_of self.old) result (state_of self.new) }
+    /// The rules of fields with that of one more.
+    fn with_rule(&self, field: &Text, rule: FieldRule) -> Result<Dict, OutOfMemory>
+        ensures { IfOk result (λ dict. dict ≡ map.insert self.now.dict field.now rule) }
+    {
+        let mut dict = self.dict.copy()?;
+        dict.define(field.as_str(), rule)?;
+        Ok(dict)
+    }
+
+    fn define<K: Keeper>(
+        &mut self,
+        alloc: Global,
+        keeper: &mut K,
+        field: &Text,
+        rule: FieldRule,
+    ) -> Reply
+        ensures does { (w : World) → Holds (K.told keeper.old) self.old w → IsTrue (is_folded_name field.now) →
+            Does (K.told keeper.new) self.new w (Meets true (is_accepted (defined (state_of w self.old) field.now rule)) (defined (state_of w self.old) field.now rule) (state_of w self.old) result) }
+        ensures accounts { SameAccounts self.old.callers self.new.callers }
+        ensures refused { is_done result ≡ false → IsSame self.old self.new }
+        ensures untold { is_done result ≡ false → K.told keeper.new ≡ K.told keeper.old }
+        ensures defined { result ≡ Reply.Defined → K.reads keeper.new ≡ with_rule_reads self.old field.now rule (K.reads keeper.old) }
+        ensures undefined { result ≡ Reply.NotEmpty → K.reads keeper.new ≡ K.reads keeper.old }
+        ensures counted { K.faults keeper.old ≤ K.faults keeper.new }
+        ensures failed { result ≡ Reply.StoreFault → Rose (K.faults keeper.old) (K.faults keeper.new) }
     {
         if !self.may_define(field, &rule) {
             return Reply::NotEmpty;
         }
-        match self.dict.define(field.as_str(), rule) {
-            Ok(()) => Reply::Defined,
-            Err(_) => Reply::OutOfMemory,
-        }
-    }
-
-    fn grant(&mut self, caller: &Text, auths: &Auths) -> Reply
-        ensures { Meets true (step (λ _. []) (state_of self.old) (Ok (Request.Grant caller.now auths.now))) (state_of self.old) result (state_of self.new) }
-    {
-        let Ok(names) = auths.copy() else {
+        let Ok(dict) = self.with_rule(field, rule) else {
             return Reply::OutOfMemory;
         };
-        match put_grant(&mut self.grants, caller, names) {
-            Ok(()) => Reply::Granted,
-            Err(_) => Reply::OutOfMemory,
+        match store_rule(alloc, keeper, &self.dict, self.last, field, rule) {
+            Ok(()) => {
+                self.dict = dict;
+                Reply::Defined
+            }
+            Err(error) => refusal(error),
         }
     }
 
-    fn ingest<U: UidMaker>(&mut self, alloc: Global, uids: &U, records: &Records) -> Reply
-        ensures { Replies U.digest (state_of self.old) (Ok (Request.Ingest records.now)) result (state_of self.new) }
+    fn grant<K: Keeper>(
+        &mut self,
+        alloc: Global,
+        keeper: &mut K,
+        caller: &Text,
+        auths: &Auths,
+    ) -> Reply
+        ensures does { (w : World) → Holds (K.told keeper.old) self.old w → IsTrue (is_caller caller.now) → IsAuthSet auths.now →
+            Does (K.told keeper.new) self.new w (Meets true true (record { reply = Granted; state = with_world (state_of w self.old) (with_grant w caller.now auths.now) }) (state_of w self.old) result) }
+        ensures accounts { SameAccounts self.old.callers self.new.callers }
+        ensures refused { is_done result ≡ false → IsSame self.old self.new }
+        ensures untold { is_done result ≡ false → K.told keeper.new ≡ K.told keeper.old }
+        ensures reads { K.reads keeper.new ≡ K.reads keeper.old }
+        ensures counted { K.faults keeper.old ≤ K.faults keeper.new }
+        ensures failed { result ≡ Reply.StoreFault → Rose (K.faults keeper.old) (K.faults keeper.new) }
     {
-        let all = records.as_slice();
-        let last = self.last;
-        match take_batch(alloc, &mut self.events, uids, last, all) {
-            Ok(Some(tally)) => {
-                if tally.added > 0 {
-                    self.last = last + 1;
+        grants_are_cells();
+        grants_keep_worlds();
+        if !may_be_granted(auths.as_slice()) {
+            return Reply::Malformed { why: Why::Auths };
+        }
+        match store_grant(alloc, keeper, &mut self.grants, caller, auths) {
+            Ok(()) => Reply::Granted,
+            Err(error) => refusal(error),
+        }
+    }
+
+    fn ingest<K: Keeper, U: UidMaker>(
+        &mut self,
+        alloc: Global,
+        keeper: &mut K,
+        uids: &U,
+        records: &Records,
+    ) -> Reply
+        ensures does { (w : World) → Holds (K.told keeper.old) self.old w → AreWellFormed records.now →
+            Does (K.told keeper.new) self.new w (Meets true (is_accepted (ingested (state_of w self.old) (taken U.digest w.events w.last records.now))) (ingested (state_of w self.old) (taken U.digest w.events w.last records.now)) (state_of w self.old) result) }
+        ensures accounts { SameAccounts self.old.callers self.new.callers }
+        ensures refused { is_done result ≡ false → IsSame self.old self.new }
+        ensures untold { is_done result ≡ false → K.told keeper.new ≡ K.told keeper.old }
+        ensures counted { K.faults keeper.old ≤ K.faults keeper.new }
+        ensures failed { result ≡ Reply.StoreFault → Rose (K.faults keeper.old) (K.faults keeper.new) }
+    {
+        match ingest(
+            alloc,
+            keeper,
+            uids,
+            &self.dict,
+            self.last,
+            records.as_slice(),
+        ) {
+            Ok(report) => {
+                if report.new > 0 {
+                    self.last += 1;
                 }
-                Reply::Ingested {
-                    report: report_of(tally, self.last),
-                }
+                Reply::Ingested { report }
             }
-            Ok(None) => Reply::Spent,
-            Err(_) => Reply::OutOfMemory,
+            Err(IngestError::Spent) => Reply::Spent,
+            Err(IngestError::StoreFault) => Reply::StoreFault,
+            Err(IngestError::OutOfMemory) => Reply::OutOfMemory,
         }
     }
 
@@ -171,35 +297,35 @@ impl Desk {
         types: &Types,
         size: u32,
         asked: Option<&Auths>,
-    ) -> Result<OpenQuery, OutOfMemory>
-        ensures { IfOk result (λ q. q ≡ query_of (state_of self.now).world caller.now query days.now types.now size (option_copied asked.entry)) }
+    ) -> Result<KeptQuery, OutOfMemory>
+        requires anchor { IsTrue (is_anchored query) }
+        requires ruled { IsTrue (is_ruled self.now.dict query) }
+        ensures unmarked { IfOk result (λ kept. kept.mark ≡ None) }
+        ensures query { IfOk result (λ kept. (w : World) → HasRules self.now w → query_kept kept ≡ query_of w caller.now query days.now types.now size (option_copied asked.entry)) }
     {
-        Ok(OpenQuery {
+        let ask = Ask {
             query,
             dict: self.dict.copy()?,
             auths: self.names_for(alloc, caller, asked)?,
             snapshot: self.last,
-            days: days.copy()?,
             types: types.copy()?,
+        };
+        Ok(KeptQuery {
+            asked: AnchoredAsk { ask },
+            days: days.copy()?,
             size,
+            mark: None,
         })
     }
 
-    fn open(
-        &mut self,
-        alloc: Global,
-        caller: &Text,
-        query: NQuery,
-        days: &Days,
-        types: &Types,
-        size: u32,
-        asked: Option<&Auths>,
-    ) -> Reply
-        ensures { Meets true (created (state_of self.old) caller.now (query_of (state_of self.old).world caller.now query days.now types.now size (option_copied asked.entry))) (state_of self.old) result (state_of self.new) }
+    /// Opens a query under the caller's next number.
+    fn open(&mut self, alloc: Global, caller: &Text, query: KeptQuery) -> Reply
+        ensures does { (w : World) → Meets true false (created (state_of w self.old) caller.now (query_kept query)) (state_of w self.old) result (state_of w self.new) }
+        ensures marks { (w : World) → IsMarkedIn w query → AreMarked w self.old.callers → AreMarked w self.new.callers }
+        ensures rules { KeepsRules self.old self.new }
+        ensures refused { is_done result ≡ false → SameAccounts self.old.callers self.new.callers }
+        ensures store { result ≢ Reply.StoreFault }
     {
-        let Ok(query) = self.query_now(alloc, caller, query, days, types, size, asked) else {
-            return Reply::OutOfMemory;
-        };
         match give(alloc, &mut self.callers, caller, query) {
             Ok(Some(number)) => Reply::Created { number },
             Ok(None) => Reply::Spent,
@@ -217,8 +343,13 @@ impl Desk {
         size: u32,
         asked: Option<&Auths>,
     ) -> Reply
-        ensures { Meets true (asked_for (state_of self.old) caller.now days.now types.now size (option_copied asked.entry) (bound self.old.dict query.now)) (state_of self.old) result (state_of self.new) }
+        ensures does { (w : World) → HasRules self.old w → Meets true false (asked_for (state_of w self.old) caller.now days.now types.now size (option_copied asked.entry) (bound w.dict query.now)) (state_of w self.old) result (state_of w self.new) }
+        ensures marks { (w : World) → HasRules self.old w → AreMarked w self.old.callers → AreMarked w self.new.callers }
+        ensures rules { KeepsRules self.old self.new }
+        ensures refused { is_done result ≡ false → SameAccounts self.old.callers self.new.callers }
+        ensures store { result ≢ Reply.StoreFault }
     {
+        bound_are_ruled();
         let bound = match bind(alloc, query, &self.dict) {
             Ok(bound) => bound,
             Err(BindError::Literal) => {
@@ -229,46 +360,78 @@ impl Desk {
         if !anchored(&bound) {
             return Reply::Unanchored;
         }
-        self.open(alloc, caller, bound, days, types, size, asked)
-    }
-
-    /// The caller's open query of a number.
-    fn open_query(&self, caller: &Text, number: u64) -> Option<&OpenQuery>
-        ensures { MatchOption result ((account_of self.now.callers caller.now).queries number ≡ None) (λ q. (account_of self.now.callers caller.now).queries number ≡ Some q.now) }
-    {
-        self.callers.get(caller)?.query(number)
-    }
-
-    fn page(&self, alloc: Global, caller: &Text, number: u64, page: u32) -> Reply
-        ensures { Meets (is_owned (paged (state_of self.now) page ((account_of self.now.callers caller.now).queries number)).reply) (paged (state_of self.now) page ((account_of self.now.callers caller.now).queries number)) (state_of self.now) result (state_of self.now) }
-    {
-        let Some(query) = self.open_query(caller, number) else {
-            return Reply::NotOwned;
-        };
-        match page_of(alloc, &self.events, query, page) {
-            Ok((shown, more)) => Reply::Paged { shown, more },
+        match self.query_now(alloc, caller, bound, days, types, size, asked) {
+            Ok(query) => self.open(alloc, caller, query),
             Err(_) => Reply::OutOfMemory,
         }
     }
 
+    /// The caller's open query of a number.
+    fn open_query(&self, caller: &Text, number: u64) -> Option<&KeptQuery>
+        ensures { MatchOption result ((kept_of self.now.callers caller.now).queries number ≡ None) (λ q. (kept_of self.now.callers caller.now).queries number ≡ Some q.now) }
+    {
+        self.callers.get(caller)?.query(number)
+    }
+
+    fn page<R: Threads + Sync, K: Keeper, G: Gate>(
+        &mut self,
+        rt: &R,
+        alloc: Global,
+        keeper: &mut K,
+        gate: &G,
+        settings: &Settings,
+        caller: &Text,
+        number: u64,
+        page: u32,
+    ) -> Reply
+        ensures does { (w : World) → Stands (K.told keeper.old) self.old w →
+            Meets (is_accepted (paged (state_of w self.old) page ((account_of self.old.callers caller.now).queries number))) (is_accepted (paged (state_of w self.old) page ((account_of self.old.callers caller.now).queries number)))
+            (paged (state_of w self.old) page ((account_of self.old.callers caller.now).queries number)) (state_of w self.old) result (state_of w self.new) }
+        ensures marks { (w : World) → Stands (K.told keeper.old) self.old w → AreMarked w self.new.callers }
+        ensures rules { KeepsRules self.old self.new }
+        ensures refused { is_done result ≡ false → SameAccounts self.old.callers self.new.callers }
+        ensures paged { (w : World) (k : KeptQuery) (shown : List Shown) (more : Bool) → Stands (K.told keeper.old) self.old w → (kept_of self.old.callers caller.now).queries number ≡ Some k → 1 ≤ page → result ≡ Reply.Paged shown more →
+            PageReads w (k, page) settings.now.workers (K.reads keeper.old) (K.reads keeper.new) }
+        ensures told { K.told keeper.new ≡ K.told keeper.old }
+        ensures counted { K.faults keeper.old ≤ K.faults keeper.new }
+        ensures failed { result ≡ Reply.StoreFault → Rose (K.faults keeper.old) (K.faults keeper.new) }
+    {
+        let Some(query) = self.open_query(caller, number) else {
+            return Reply::NotOwned;
+        };
+        let turned = turn_page(
+            rt,
+            alloc,
+            keeper,
+            gate,
+            &query.asked.ask,
+            &query.days,
+            query.size,
+            query.mark.as_ref(),
+            page.max(1),
+            settings,
+        );
+        match turned {
+            Ok(turned) => {
+                let Turned { shown, more, mark } = turned;
+                set_mark(&mut self.callers, caller, number, mark);
+                Reply::Paged { shown, more }
+            }
+            Err(error) => refusal(error),
+        }
+    }
+
     fn close(&mut self, caller: &Text, number: u64) -> Reply
-        ensures { IsOutcome (dropped (state_of self.old) caller.now number ((account_of self.old.callers caller.now).queries number)) result (state_of self.new) }
+        ensures does { (w : World) → IsOutcome (dropped (state_of w self.old) caller.now number ((account_of self.old.callers caller.now).queries number)) result (state_of w self.new) }
+        ensures marks { (w : World) → AreMarked w self.old.callers → AreMarked w self.new.callers }
+        ensures rules { KeepsRules self.old self.new }
+        ensures refused { is_done result ≡ false → SameAccounts self.old.callers self.new.callers }
+        ensures store { result ≢ Reply.StoreFault }
     {
         if close(&mut self.callers, caller, number) {
             Reply::Closed
         } else {
             Reply::NotOwned
         }
-    }
-}
-
-fn report_of(tally: Tally, last: u64) -> Report
-    ensures { result ≡ record { new = tally.added; repeat = tally.repeat; bad = tally.bad; last = last } }
-{
-    Report {
-        new: tally.added,
-        repeat: tally.repeat,
-        bad: tally.bad,
-        last,
     }
 }

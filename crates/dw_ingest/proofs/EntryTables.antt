@@ -1,5 +1,5 @@
 -- On the tables of an event's entries.
-use Rattle.std.proofs.Common.{◌≡◌, ◌≤◌, ◌<◌, ◌⊎◌, inl, inr, ℕ, zero, suc, List, [], ◌∷◌, length, get_or, arith, Bool, true, false, not, nat_le, cond, map, refl, ap, sym, ◌∙◌, ◌||◌, ◌++◌}
+use Rattle.std.proofs.Common.{◌≡◌, ◌≤◌, ◌<◌, ◌⊎◌, inl, inr, ℕ, zero, suc, List, [], ◌∷◌, length, get_or, arith, Bool, true, false, not, nat_le, map, refl, ◌∙◌, ◌||◌, ◌++◌}
 use Rattle.std.specs.Prelude.{All}
 use Rattle.std.specs.List.{AllByRecursion}
 use Rattle.std.specs.BTreeSet.{insert_key}
@@ -11,16 +11,14 @@ use Rattle.dw_dict.specs.Dictionary.{Dictionary}
 use Rattle.dw_event.specs.Take.{Event}
 use Rattle.dw_derive.specs.declared.event_cells.Entry.{Entry}
 use Rattle.dw_derive.specs.Entries.{entries_of, entry_cmp}
-use Rattle.std.specs.Prelude.{Option, Some, None}
-use Rattle.std.specs.Option.{is_some}
 use Rattle.std.specs.List.{list_any}
-use Rattle.std.specs.FinMap.{get, insert, empty, entries, keys, get-insert, get-empty, contains_key-keys}
+use Rattle.std.specs.FinMap.{entries, keys, contains_key-keys}
 use Rattle.std.proofs.lemmas.Bool.Decides.{nat_tests}
 use Rattle.dw_outside.specs.declared.slot.Slot.{Slot}
 use Rattle.dw_outside.specs.declared.cell.Put.{Put}
-use Rattle.dw_outside.specs.Tables.{Tables, slot_cmp, is_slot, slot_of_put, applied, puts_from}
-use Rattle.dw_outside.proofs.CellMaps.{exact_slots, slots_total, same_slot}
-use Rattle.dw_ingest.specs.Fitting.{FitsTables}
+use Rattle.dw_outside.specs.Tables.{Tables, HasFourTables, slot_cmp, is_slot, puts_from}
+use Rattle.dw_outside.proofs.CellMaps.{exact_slots, slots_total}
+use Rattle.dw_outside.proofs.FourTables.{by_index}
 use Rattle.dw_derive.proofs.Maps.{member}
 use Rattle.dw_derive.proofs.Given.{Shape, shapes}
 
@@ -61,33 +59,8 @@ tables_fit dict e = all_at (λ (n : Entry). n.table ≤ 3) (set_of entry_cmp (en
 
 -- ---- batches
 
-put_fits : (m : Tables) (p : Put) → p.table ≤ 3 → FitsTables m → FitsTables (insert m (slot_of_put p) p.content)
-put_fits m p low h s some = at (is_slot s (slot_of_put p)) refl (ap is_some (sym (get-insert slots_total m (slot_of_put p) p.content s)) ∙ some)
-  where
-    at : (b : Bool) → is_slot s (slot_of_put p) ≡ b → is_some (cond (is_slot s (slot_of_put p)) (Some p.content) (get m s)) ≡ true → s.table ≤ 3
-    at true e k = let same : s ≡ slot_of_put p = same_slot s (slot_of_put p) e in let t : s.table ≡ p.table = ap (λ (x : Slot). x.table) same in omega (arith, t, low)
-    at false e k = h s (ap (λ b. is_some (cond b (Some p.content) (get m s))) (sym e) ∙ k)
-
-applied_all : (ps : List Put) (m : Tables) → FitsTables m → AllByRecursion (λ (p : Put). p.table ≤ 3) ps → FitsTables (applied ps m)
-applied_all [] m h k = h
-applied_all (p ∷ ps) m h k = applied_all ps (insert m (slot_of_put p) p.content) (put_fits m p k.0 h) k.1
-
-by_index : {A : Type 0} (P : A → Type 0) (xs : List A) → ((k : ℕ) (d : A) → k < length xs → P (get_or xs k d)) → AllByRecursion P xs
-by_index P [] h = tt
-by_index P (x ∷ xs) h = (h 0 x (omega arith), by_index P xs (λ k d l. h (suc k) d (omega arith)))
-
-pub applied_fits : (ps : List Put) (m : Tables) → FitsTables m → All (λ p. p.table ≤ 3) ps → FitsTables (applied ps m)
-applied_fits ps m h all = applied_all ps m h (by_index (λ (p : Put). p.table ≤ 3) ps all)
-
-pub empty_fits : FitsTables empty
-empty_fits s h = no (get empty s) (get-empty slot_cmp s) h
-  where
-    no : (o : Option (List ℕ)) → o ≡ None → is_some o ≡ true → s.table ≤ 3
-    no None e k = cc
-    no (Some x) e k = cc
-
 -- the puts of a batch name its slots
-pub puts_fit : (m : Tables) → FitsTables m → All (λ p. p.table ≤ 3) (puts_from m)
+pub puts_fit : (m : Tables) → HasFourTables m → All (λ p. p.table ≤ 3) (puts_from m)
 puts_fit m h = all_at (λ (p : Put). p.table ≤ 3) (puts_from m) (each (entries m) (none refl))
   where
     over_three : Slot → Bool

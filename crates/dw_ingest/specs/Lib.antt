@@ -1,5 +1,4 @@
 pub mod Standing
-pub mod Fitting
 pub mod Going
 pub mod Errors
 pub mod Ingested

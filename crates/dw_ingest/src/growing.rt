@@ -2,10 +2,9 @@ ghost use Rattle.std.specs.Prelude.{◌≡◌, ◌≤◌, ◌++◌, ◌∷◌, [
 ghost use Rattle.std.specs.FinMap as map;
 ghost use Rattle.dw_base.specs.Ascending.{set_of};
 ghost use Rattle.dw_outside.specs.Faults.{Rose};
-ghost use Rattle.dw_outside.specs.Tables.{Tables, applied, over};
+ghost use Rattle.dw_outside.specs.Tables.{Tables, HasFourTables, applied, over};
 ghost use Rattle.dw_outside.specs.declared.keeper_error.KeeperError.{KeeperError};
 ghost use Rattle.dw_derive.specs.Entries.{event_of, entries_of, entry_cmp, slot_of};
-ghost use Rattle.dw_ingest.specs.Fitting.{FitsTables};
 ghost use Rattle.dw_derive.specs.Laws.{list_of_one, list_with, grown, put_of, stepped};
 
 use dw_base::{Bytes, OutOfMemory};
@@ -159,7 +158,7 @@ pub fn add_event<K: Keeper>(
 ) -> Result<(), KeeperError>
     ensures same { K.told keeper.new ≡ K.told keeper.old }
     ensures batch { (t : Tables) → K.told keeper.old ≡ Some t → OnOk result (over batch.new t ≡ stepped dict.now (event_of event.now) (over batch.old t)) }
-    ensures fits { FitsTables batch.old → OnOk result (FitsTables batch.new) }
+    ensures fits { HasFourTables batch.old → OnOk result (HasFourTables batch.new) }
     ensures unasked { K.asked keeper.new ≡ K.asked keeper.old }
     ensures counted { K.faults keeper.old ≤ K.faults keeper.new }
     ensures failed { result ≡ Err KeeperError.Failed → Rose (K.faults keeper.old) (K.faults keeper.new) }

@@ -3,12 +3,11 @@ ghost use Rattle.std.specs.Option.{option_map};
 ghost use Rattle.std.specs.FinMap as map;
 ghost use Rattle.dw_event.specs.Take.{taken};
 ghost use Rattle.dw_outside.specs.Faults.{Rose, one_more};
-ghost use Rattle.dw_outside.specs.Tables.{over};
+ghost use Rattle.dw_outside.specs.Tables.{HasFourTables, over};
 ghost use Rattle.dw_derive.specs.Meta.{commit_slot, commit_bytes};
 ghost use Rattle.dw_derive.specs.World.{World};
 ghost use Rattle.dw_derive.specs.Tables.{tables};
 ghost use Rattle.dw_derive.specs.Lawful.{IsWorld};
-ghost use Rattle.dw_ingest.specs.Fitting.{FitsTables};
 ghost use Rattle.dw_ingest.specs.Going.{AreWellFormed};
 ghost use Rattle.dw_ingest.specs.Ingested.{Ingested, Asks, last_number};
 ghost use Rattle.dw_outside.specs.declared.keeper_error.KeeperError.{KeeperError};
@@ -56,7 +55,7 @@ fn store_batch<K: Keeper>(
     number: u64,
 ) -> Result<(), KeeperError>
     requires number { number ≢ 0 }
-    requires fits { FitsTables batch.now }
+    requires fits { HasFourTables batch.now }
     ensures ok { OnOk result (K.told keeper.new ≡ option_map (λ t. map.insert (over batch.now t) commit_slot (commit_bytes number)) (K.told keeper.old)) }
     ensures err { OnErr result (K.told keeper.new ≡ K.told keeper.old) }
     ensures asked { OnOk result (K.asked keeper.new ≡ option_map one_more (K.asked keeper.old)) }

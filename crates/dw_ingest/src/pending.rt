@@ -6,14 +6,13 @@ ghost use Rattle.dw_event.specs.Places.{place_cmp, place_of};
 ghost use Rattle.dw_event.specs.Records.{IsWellFormed};
 ghost use Rattle.dw_event.specs.Take.{Taken, none_taken, with_record, with_records};
 ghost use Rattle.dw_outside.specs.Faults.{Rose};
-ghost use Rattle.dw_outside.specs.Tables.{Tables, over};
+ghost use Rattle.dw_outside.specs.Tables.{Tables, HasFourTables, over};
 ghost use Rattle.dw_outside.specs.declared.keeper_error.KeeperError.{KeeperError};
 ghost use Rattle.dw_derive.specs.UidLists.{IsUid};
 ghost use Rattle.dw_derive.specs.World.{World};
 ghost use Rattle.dw_derive.specs.Tables.{tables};
 ghost use Rattle.dw_derive.specs.Laws.{stepped};
 ghost use Rattle.dw_derive.specs.Lawful.{HasEvents};
-ghost use Rattle.dw_ingest.specs.Fitting.{FitsTables};
 ghost use Rattle.dw_ingest.specs.Going.{Going, AreWellFormed};
 
 use crate::OutOfMemory;
@@ -87,7 +86,7 @@ fn add_new<K: Keeper>(
     requires added { pending.old.tally.added < 2 ^ 32 - 1 }
     ensures same { K.told keeper.new ≡ K.told keeper.old }
     ensures batch { (t : Tables) → K.told keeper.old ≡ Some t → OnOk result (over pending.new.batch t ≡ stepped dict.now (place, record { cells = rec.now.cells; batch = number }) (over pending.old.batch t)) }
-    ensures fits { FitsTables pending.old.batch → OnOk result (FitsTables pending.new.batch) }
+    ensures fits { HasFourTables pending.old.batch → OnOk result (HasFourTables pending.new.batch) }
     ensures news { OnOk result (pending.new.news.entries ≡ insert_entry place_cmp pending.old.news.entries place (record { cells = rec.now.cells; batch = number })) }
     ensures tally { OnOk result (pending.new.tally ≡ record pending.old.tally { at = pending.old.tally.at + 1; added = pending.old.tally.added + 1 }) }
     ensures unasked { K.asked keeper.new ≡ K.asked keeper.old }
@@ -126,7 +125,7 @@ fn take_read<K: Keeper, U: UidMaker>(
     requires number { 1 ≤ number }
     ensures same { K.told keeper.new ≡ K.told keeper.old }
     ensures going { (w : World) (so_far : Taken) (t : Tables) → K.told keeper.old ≡ Some t → t ≡ tables w → w.dict ≡ dict.now → HasEvents w → IsWellFormed rec.now → Going w so_far t pending.old → OnOk result (Going w (with_record U.digest number so_far (Ok rec.now)) t pending.new) }
-    ensures fits { FitsTables pending.old.batch → OnOk result (FitsTables pending.new.batch) }
+    ensures fits { HasFourTables pending.old.batch → OnOk result (HasFourTables pending.new.batch) }
     ensures at { OnOk result (pending.new.tally.at ≡ pending.old.tally.at + 1) }
     ensures added { OnOk result (pending.new.tally.added ≤ pending.old.tally.added + 1) }
     ensures repeat { OnOk result (pending.new.tally.repeat ≤ pending.old.tally.repeat + 1) }
@@ -162,7 +161,7 @@ fn take_record<K: Keeper, U: UidMaker>(
     requires number { 1 ≤ number }
     ensures same { K.told keeper.new ≡ K.told keeper.old }
     ensures going { (w : World) (so_far : Taken) (t : Tables) → K.told keeper.old ≡ Some t → t ≡ tables w → w.dict ≡ dict.now → HasEvents w → IfOk rec.now IsWellFormed → Going w so_far t pending.old → OnOk result (Going w (with_record U.digest number so_far rec.now) t pending.new) }
-    ensures fits { FitsTables pending.old.batch → OnOk result (FitsTables pending.new.batch) }
+    ensures fits { HasFourTables pending.old.batch → OnOk result (HasFourTables pending.new.batch) }
     ensures at { OnOk result (pending.new.tally.at ≡ pending.old.tally.at + 1) }
     ensures added { OnOk result (pending.new.tally.added ≤ pending.old.tally.added + 1) }
     ensures repeat { OnOk result (pending.new.tally.repeat ≤ pending.old.tally.repeat + 1) }
@@ -192,7 +191,7 @@ pub fn take_records<K: Keeper, U: UidMaker>(
     requires number { 1 ≤ number }
     ensures same { K.told keeper.new ≡ K.told keeper.old }
     ensures going { (w : World) (t : Tables) → K.told keeper.old ≡ Some t → t ≡ tables w → w.dict ≡ dict.now → HasEvents w → AreWellFormed records.now → IfOk result (λ p. Going w (with_records U.digest number (none_taken w.events) records.now) t p) }
-    ensures fits { IfOk result (λ p. FitsTables p.batch) }
+    ensures fits { IfOk result (λ p. HasFourTables p.batch) }
     ensures unasked { K.asked keeper.new ≡ K.asked keeper.old }
     ensures counted { K.faults keeper.old ≤ K.faults keeper.new }
     ensures failed { result ≡ Err KeeperError.Failed → Rose (K.faults keeper.old) (K.faults keeper.new) }

@@ -1,10 +1,10 @@
-ghost use Rattle.std.specs.Prelude.{◌≡◌, ◌≤◌, All, IfOk, OnOk, OnErr, Some, Err, map as list_map};
+ghost use Rattle.std.specs.Prelude.{◌≡◌, ◌≤◌, ◌⊎◌, All, IfOk, OnOk, OnErr, Some, Err, map as list_map};
 ghost use Rattle.std.specs.Option.{option_map};
 ghost use Rattle.std.specs.FinMap as map;
 ghost use Rattle.dw_dict.specs.Rules.{Widens};
 ghost use Rattle.dw_dict.specs.Dictionary.{rule_of};
 ghost use Rattle.dw_outside.specs.Faults.{Rose, one_more};
-ghost use Rattle.dw_outside.specs.Tables.{over};
+ghost use Rattle.dw_outside.specs.Tables.{HasFourTables, over};
 ghost use Rattle.dw_outside.specs.declared.keeper_error.KeeperError.{KeeperError};
 ghost use Rattle.dw_derive.specs.Entries.{event_of, slot_of};
 ghost use Rattle.dw_derive.specs.Laws.{list_with, put_of};
@@ -13,9 +13,8 @@ ghost use Rattle.dw_derive.specs.World.{World};
 ghost use Rattle.dw_derive.specs.Tables.{tables};
 ghost use Rattle.dw_derive.specs.Lawful.{HasEvents, IsWorld};
 ghost use Rattle.dw_derive.specs.Indexing.{slots_added, index_stepped, all_stepped, added_tables};
-ghost use Rattle.dw_ingest.specs.Fitting.{FitsTables};
 ghost use Rattle.dw_ingest.specs.Ingested.{Asks};
-ghost use Rattle.dw_ingest.specs.Reindexed.{Reindexed, adds_cells};
+ghost use Rattle.dw_ingest.specs.Reindexed.{Reindexed, adds_cells, with_rule_read};
 
 use crate::OutOfMemory;
 use crate::growing::keep;
@@ -61,7 +60,7 @@ fn add_index(
     event: &Event,
 ) -> Result<(), OutOfMemory>
     ensures batch { OnOk result (batch.new ≡ index_stepped (slots_added field.now old rule) (event_of event.now) batch.old) }
-    ensures fits { FitsTables batch.old → OnOk result (FitsTables batch.new) }
+    ensures fits { HasFourTables batch.old → OnOk result (HasFourTables batch.new) }
 {
     let entries = entries_added(alloc, event, field, old, rule)?;
     let puts = puts_in(alloc, batch, entries.as_slice(), &event.key.uid)?;
@@ -89,7 +88,7 @@ fn index_of(
     rule: FieldRule,
 ) -> Result<Store, OutOfMemory>
     ensures batch { IfOk result (λ b. b ≡ all_stepped (slots_added field.now old rule) events.entries map.empty) }
-    ensures fits { IfOk result FitsTables }
+    ensures fits { IfOk result HasFourTables }
 {
     let mut left = events;
     let mut batch = Store::new(alloc);
@@ -117,7 +116,9 @@ fn added<K: Keeper>(
 ) -> Result<Store, KeeperError>
     ensures same { K.told keeper.new ≡ K.told keeper.old }
     ensures added { (w : World) → HasEvents w → w.dict ≡ dict.now → Widens rule (rule_of dict.now field.now) → K.told keeper.old ≡ Some (tables w) → IfOk result (λ b. b ≡ added_tables w field.now rule) }
-    ensures fits { IfOk result FitsTables }
+    ensures fits { IfOk result HasFourTables }
+    ensures read { OnOk result (K.reads keeper.new ≡ with_rule_read (rule_of dict.now field.now) rule (K.reads keeper.old)) }
+    ensures unread { OnErr result ((K.reads keeper.new ≡ K.reads keeper.old) ⊎ (K.reads keeper.new ≡ with_rule_read (rule_of dict.now field.now) rule (K.reads keeper.old))) }
     ensures unasked { K.asked keeper.new ≡ K.asked keeper.old }
     ensures counted { K.faults keeper.old ≤ K.faults keeper.new }
     ensures failed { result ≡ Err KeeperError.Failed → Rose (K.faults keeper.old) (K.faults keeper.new) }
@@ -142,10 +143,11 @@ fn store_rule<K: Keeper>(
     field: &str,
     rule: FieldRule,
 ) -> Result<u64, KeeperError>
-    requires { FitsTables batch.now }
+    requires { HasFourTables batch.now }
     ensures ok { OnOk result (K.told keeper.new ≡ option_map (λ t. map.insert (over batch.now t) (field_slot field.now) (rule_bytes rule)) (K.told keeper.old)) }
     ensures count { IfOk result (λ n. n ≡ map.len batch.now) }
     ensures err { OnErr result (K.told keeper.new ≡ K.told keeper.old) }
+    ensures reads { K.reads keeper.new ≡ K.reads keeper.old }
     ensures asked { OnOk result (K.asked keeper.new ≡ option_map one_more (K.asked keeper.old)) }
     ensures asks { Asks (K.asked keeper.old) (K.asked keeper.new) }
     ensures counted { K.faults keeper.old ≤ K.faults keeper.new }
@@ -170,6 +172,10 @@ pub fn reindex<K: Keeper>(
     requires { Widens rule (rule_of dict.now field.now) }
     ensures ok { (w : World) → IsWorld w → w.dict ≡ dict.now → K.told keeper.old ≡ Some (tables w) → IfOk result (λ n. Reindexed w field.now rule n (K.told keeper.new)) }
     ensures err { OnErr result (K.told keeper.new ≡ K.told keeper.old) }
+
+    // Table 0 is read whole, and once, where the rule adds cells, and nothing else is.
+    ensures read { OnOk result (K.reads keeper.new ≡ with_rule_read (rule_of dict.now field.now) rule (K.reads keeper.old)) }
+    ensures unread { OnErr result ((K.reads keeper.new ≡ K.reads keeper.old) ⊎ (K.reads keeper.new ≡ with_rule_read (rule_of dict.now field.now) rule (K.reads keeper.old))) }
     ensures asked { OnOk result (K.asked keeper.new ≡ option_map one_more (K.asked keeper.old)) }
     ensures asks { Asks (K.asked keeper.old) (K.asked keeper.new) }
     ensures counted { K.faults keeper.old ≤ K.faults keeper.new }

@@ -1,17 +1,19 @@
 -- What a stop leaves while a journal is opened.
-use Rattle.std.proofs.Common.{◌≡◌, inl, inr, ⊎_elim, ℕ, zero, suc, ◌+◌, ◌<◌, ◌≤◌, max, List, [], ◌∷◌, ◌++◌, length, take, drop, get_or, Option, Some, None, false, refl, sym, ◌∙◌, ap, subst, arith, append_assoc}
+use Rattle.std.proofs.Common.{◌≡◌, inl, inr, ⊎_elim, ℕ, ◌<◌, ◌≤◌, List, [], ◌∷◌, ◌++◌, length, take, Option, Some, None, refl, sym, ◌∙◌, ap, subst, arith, append_assoc}
 use Rattle.std.proofs.lemmas.List.{take_at}
 use Rattle.std.proofs.lemmas.Grind.{same_number_lists}
 use Rattle.std.specs.FinMap as map
-use Rattle.dw_outside.specs.Tables.{Tables}
-use Rattle.dw_outside.specs.Disks.{DiskState, DiskModel, MayLeave, Now, Since, after, overlay, wrote, wrote_to, synced, settled, IsTorn}
+use Rattle.dw_outside.specs.Tables.{Tables, HasFourTables, applied}
+use Rattle.dw_outside.specs.Disks.{DiskState, DiskModel, MayLeave, Each, Now, Since, after, overlay, wrote, wrote_to, synced, settled, IsTorn}
 use Rattle.dw_outside.specs.DiskStands.{size}
-use Rattle.dw_journal.specs.Frames.{open_frames, frames_of, Holds, StandsFor}
-use Rattle.dw_journal.specs.Fixed.{IsFixed, IsAtRest, GateStands}
+use Rattle.dw_outside.specs.declared.cell.Put.{Put}
+use Rattle.dw_outside.proofs.FourTables.{applied_all, empty_fits}
+use Rattle.dw_journal.specs.Frames.{open_frames, frames_of, tables_from, IsBatch}
+use Rattle.dw_journal.specs.Fixed.{IsAtRest}
 use Rattle.dw_journal.specs.Reading.{IsRead}
-use Rattle.dw_journal.specs.Journal.{IsAlike, LeavesNoMore}
+use Rattle.dw_journal.specs.Journal.{LeavesNoMore}
 use Rattle.dw_journal.specs.Opening.{IsOpened, SinceNoMore}
-use Rattle.dw_journal.proofs.Moments.{since_both, since_more, stays, step_runs, torn_runs, same_runs, then_runs, Runs}
+use Rattle.dw_journal.proofs.Moments.{since_both, since_more, step_runs, torn_runs, same_runs, then_runs, Runs}
 use Rattle.dw_journal.proofs.Gates.{since_same}
 
 -- what a stop leaves once all is on the disk
@@ -132,3 +134,14 @@ opened_read (Some m) mid found place is read =
         disk = subst (λ (n : Option DiskModel). Now (IsAtRest (frames_of there.batches)) n) (sym is) (record { gate = frames.gate; closed = frames.closed; fixed = record { seen = starts; kept = starts; loose = tt } });
       };
     }
+
+-- ---- batches leave four tables
+
+four_from : (t : Tables) (batches : List (List Put)) → HasFourTables t → Each IsBatch batches → HasFourTables (tables_from t batches)
+four_from t [] four lawful = four
+four_from t (puts ∷ batches) four lawful = four_from (applied puts t) batches (applied_all puts t four lawful.0.tables) lawful.1
+
+pub opened_four : (old new : Option DiskModel) (found : Tables) (place : ℕ) → Now (λ s. IsOpened s.seen found place new) old → SinceNoMore old new → Now (λ _. HasFourTables found) new
+opened_four None new found place opened since = subst (Now (λ _. HasFourTables found)) (sym since) tt
+opened_four (Some m) None found place opened since = tt
+opened_four (Some m) (Some n) found place opened since = subst HasFourTables (sym opened.tables) (four_from map.empty opened.batches empty_fits opened.lawful)

@@ -6,7 +6,7 @@ ghost use Rattle.std.specs.Cmp.Lexicographic.{slice_cmp};
 ghost use Rattle.std.specs.List.Sorted.{IsStrictlySortedBy};
 ghost use Rattle.dw_outside.specs.declared.cell.Put.{Put};
 ghost use Rattle.dw_outside.specs.Faults.{Rose};
-ghost use Rattle.dw_outside.specs.Tables.{Tables, applied, cell_pair, is_in_span, limited, span_of};
+ghost use Rattle.dw_outside.specs.Tables.{Tables, HasFourTables, applied, cell_pair, is_in_span, limited, span_of};
 ghost use Rattle.dw_outside.specs.Reads.{reading_of, with_read};
 ghost use Rattle.dw_outside.specs.Disks.{Since};
 ghost use Rattle.dw_journal.specs.Frames.{Holds};
@@ -32,7 +32,8 @@ pub struct JournalKeeper<D: Disk + Drop> {
 
 impl<D: Disk + Drop> Model for JournalKeeper<D> {
     ghost use Rattle.std.specs.Coded.{codes};
-    ghost use Rattle.dw_outside.specs.Tables.{tables_code};
+    ghost use Rattle.dw_outside.specs.Tables.{HasFourTables, tables_code};
+    ghost use Rattle.dw_outside.specs.Disks.{Now};
     ghost use Rattle.dw_outside.specs.MemoryKeeper.{coded_reading};
     ghost use Rattle.dw_journal.specs.Journal.{Journal, IsPlaced};
 
@@ -42,7 +43,8 @@ impl<D: Disk + Drop> Model for JournalKeeper<D> {
 
     ghost view = { λ k. record { disk = k.disk; tables = k.store; gate = k.gate; in_doubt = k.in_doubt; reads = k.reads.items } };
 
-    ghost invariant = { λ k. IsPlaced (D.model k.disk) k.gate };
+    // What is told are four tables.
+    ghost invariant = { λ k. IsPlaced (D.model k.disk) k.gate × Now (λ _. HasFourTables k.store) (D.model k.disk) };
 }
 
 impl<D: Disk + Drop> JournalKeeper<D> {
@@ -103,6 +105,7 @@ impl<D: Disk + Drop> Keeper for JournalKeeper<D> {
         requires { table ≤ 3 }
         ensures same { told_by (D.model self.new.disk) self.new.tables ≡ told_by (D.model self.old.disk) self.old.tables }
         ensures cells { (t : Tables) → told_by (D.model self.old.disk) self.old.tables ≡ Some t → IfOk result (λ cells. list_map cell_pair cells.items ≡ limited limit (span_of table from.now before.now t)) }
+        ensures four { (t : Tables) → told_by (D.model self.old.disk) self.old.tables ≡ Some t → OnOk result (HasFourTables t) }
         ensures ascending { IfOk result (λ cells. IsStrictlySortedBy (slice_cmp nat_cmp) (list_map (λ c. c.key) cells.items)) }
         ensures bounds { IfOk result (λ cells. All (λ c. IsTrue (is_in_span from.now before.now c.key)) cells.items) }
         ensures few { IfOk result (λ cells. limit ≢ 0 → vec_len cells ≤ limit) }

@@ -1,5 +1,5 @@
 -- A disk in memory, by what was done to it.
-use Rattle.std.specs.Prelude.{◌≡◌, ◌⊎◌, ◌<◌, ◌≤◌, ◌+◌, ◌++◌, List, [], ◌∷◌, ℕ, Bool, if◌then◌else◌, length, get_or, take, drop, max, nat_lt, Result, Ok, Err}
+use Rattle.std.specs.Prelude.{◌≡◌, ◌⊎◌, ◌<◌, ◌≤◌, ◌+◌, ◌++◌, List, [], ◌∷◌, ℕ, if◌then◌else◌, length, get_or, take, drop, max, nat_lt, Result, Ok, Err}
 use Rattle.dw_outside.specs.Faults.{one_more}
 use Rattle.dw_outside.specs.Memory.{FailsNext}
 use Rattle.dw_outside.specs.Disks.{DiskState, DiskModel, IsLoose, moved, wrote, wrote_to, synced, settled}

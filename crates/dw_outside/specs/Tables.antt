@@ -1,5 +1,6 @@
 -- Where cells stand, and all tables as one map.
-use Rattle.std.specs.Prelude.{ℕ, zero, suc, ◌==◌, List, [], ◌∷◌, Bool, ◌&&◌, filter, map as list_map, take, refl}
+use Rattle.std.specs.Prelude.{◌≡◌, ◌≤◌, ℕ, zero, suc, ◌==◌, List, [], ◌∷◌, Bool, true, ◌&&◌, filter, map as list_map, take, refl}
+use Rattle.std.specs.Option.{is_some}
 use Rattle.std.specs.Ordering.{nat_cmp, ordering_then, eq_by_cmp, is_le, is_lt}
 use Rattle.std.specs.Cmp.Lexicographic.{slice_cmp}
 use Rattle.std.specs.FinMap as map
@@ -27,6 +28,10 @@ coded_slot = code_by (ℕ × List ℕ) (coded× coded_ℕ (coded_list coded_ℕ)
 
 abbrev pub tables_code : Coded Tables
 tables_code = map.code coded_slot (coded_list coded_ℕ)
+
+-- no cell stands outside the tables 0 to 3
+abbrev pub HasFourTables : Tables → Type 0
+HasFourTables m = (s : Slot) → is_some (map.get m s) ≡ true → s.table ≤ 3
 
 -- the slot that a put sets
 abbrev pub slot_of_put : Put → Slot

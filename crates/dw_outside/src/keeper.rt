@@ -5,7 +5,7 @@ ghost use Rattle.std.specs.Cmp.Lexicographic.{slice_cmp};
 ghost use Rattle.std.specs.List.Sorted.{IsStrictlySortedBy};
 ghost use Rattle.std.specs.FinMap as map;
 ghost use Rattle.dw_outside.specs.Faults.{Rose, one_more};
-ghost use Rattle.dw_outside.specs.Tables.{Tables, applied, cell_pair, is_in_span, limited, span_of};
+ghost use Rattle.dw_outside.specs.Tables.{Tables, HasFourTables, applied, cell_pair, is_in_span, limited, span_of};
 ghost use Rattle.dw_outside.specs.Reads.{key_read, reading_of, with_read};
 ghost use Rattle.dw_outside.specs.TableLaws.{cell_of};
 ghost use Rattle.dw_outside.specs.declared.cell.Reading.{Reading};
@@ -53,6 +53,9 @@ pub trait Keeper {
         requires { table ≤ 3 }
         ensures same { told self.new ≡ told self.old }
         ensures cells { (t : Tables) → told self.old ≡ Some t → IfOk result (λ cells. list_map cell_pair cells.items ≡ limited limit (span_of table from.now before.now t)) }
+
+        // What a keeper tells are four tables.
+        ensures four { (t : Tables) → told self.old ≡ Some t → OnOk result (HasFourTables t) }
 
         // These hold of every keeper, whether it tells its tables or not.
         ensures ascending { IfOk result (λ cells. IsStrictlySortedBy (slice_cmp nat_cmp) (list_map (λ c. c.key) cells.items)) }

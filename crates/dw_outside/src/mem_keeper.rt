@@ -5,7 +5,7 @@ ghost use Rattle.std.specs.Cmp.Lexicographic.{slice_cmp};
 ghost use Rattle.std.specs.List.Sorted.{IsStrictlySortedBy};
 ghost use Rattle.std.specs.FinMap as map;
 ghost use Rattle.dw_outside.specs.Faults.{Rose, one_more};
-ghost use Rattle.dw_outside.specs.Tables.{Tables, applied, cell_pair, is_in_span, limited, span_of};
+ghost use Rattle.dw_outside.specs.Tables.{Tables, HasFourTables, applied, cell_pair, is_in_span, limited, span_of};
 ghost use Rattle.dw_outside.specs.Reads.{reading_of, with_read};
 ghost use Rattle.dw_outside.specs.MemoryKeeper.{called, failed_call, keeper_after, tables_after, one_passed, IsDue};
 
@@ -33,6 +33,7 @@ pub struct MemKeeper {
 
 impl Model for MemKeeper {
     ghost use Rattle.std.specs.Option.{option_map};
+    ghost use Rattle.dw_outside.specs.Tables.{HasFourTables};
     ghost use Rattle.dw_outside.specs.MemoryKeeper.{MemoryKeeper, keeper_code};
 
     ghost Value = { MemoryKeeper };
@@ -48,6 +49,8 @@ impl Model for MemKeeper {
       applies = k.applies;
       faults = k.faults;
     } };
+
+    ghost invariant = { λ k. HasFourTables k.store };
 }
 
 impl MemKeeper {
@@ -171,6 +174,7 @@ impl Keeper for MemKeeper {
 
     /// Fails at the named calls, and else sets all contents or wants memory.
     fn apply(&mut self, puts: &[Put]) -> Result<(), KeeperError>
+        requires { All (λ p. p.table ≤ 3) puts.now }
         ensures ok { OnOk result (Some self.new.tables ≡ option_map (applied puts.now) (Some self.old.tables)) }
         ensures err { OnErr result (Some self.new.tables ≡ Some self.old.tables) }
         ensures reads { self.new.reads ≡ self.old.reads }
@@ -201,6 +205,7 @@ impl Keeper for MemKeeper {
         requires { table ≤ 3 }
         ensures same { Some self.new.tables ≡ Some self.old.tables }
         ensures cells { (t : Tables) → Some self.old.tables ≡ Some t → IfOk result (λ cells. list_map cell_pair cells.items ≡ limited limit (span_of table from.now before.now t)) }
+        ensures four { (t : Tables) → Some self.old.tables ≡ Some t → OnOk result (HasFourTables t) }
         ensures ascending { IfOk result (λ cells. IsStrictlySortedBy (slice_cmp nat_cmp) (list_map (λ c. c.key) cells.items)) }
         ensures bounds { IfOk result (λ cells. All (λ c. IsTrue (is_in_span from.now before.now c.key)) cells.items) }
         ensures few { IfOk result (λ cells. limit ≢ 0 → vec_len cells ≤ limit) }

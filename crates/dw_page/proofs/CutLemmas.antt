@@ -61,7 +61,7 @@ skipped (k ∷ ks) x xs a =
     ap (λ ys. ys ++ flat_map (of_shard (x ∷ xs)) ks) (other x xs k (apart x.shard k a.0))
     ∙ ap (λ ys. of_shard xs k ++ ys) (skipped ks x xs a.1)
 
-all_has : (P : List ℕ → Type 0) (ks : List (List ℕ)) (s : List ℕ) → AllByRecursion P ks → has ks s ≡ true → P s
+pub all_has : (P : List ℕ → Type 0) (ks : List (List ℕ)) (s : List ℕ) → AllByRecursion P ks → has ks s ≡ true → P s
 all_has P [] s a h = cc
 all_has P (k ∷ ks) s a h = at (is_same s k) refl h (all_has P ks s a.1)
   where

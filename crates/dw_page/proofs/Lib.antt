@@ -1,6 +1,8 @@
 pub mod AnswerLemmas
 pub mod CutLemmas
 pub mod JoinedLemmas
+pub mod MarkLemmas
+pub mod NearLemmas
 pub mod OpenLemmas
 pub mod PlacedLemmas
 pub mod ReadsLemmas

@@ -14,6 +14,7 @@ use Rattle.dw_scan.specs.declared.ask.Resume.{Resume}
 use Rattle.dw_scan.specs.Batches.{IsOfWorld}
 use Rattle.dw_page.specs.declared.slot.Slot.{Slot}
 use Rattle.dw_page.specs.Remains.{left, if_held, slot_rest}
+use Rattle.dw_page.proofs.RemainsLemmas.{own_same}
 use Rattle.dw_page.specs.Placed.{is_open, SlotGood, SlotsGood, Scanned, tablet_after, IsScanOf, Accepts, Took, outs_after, Placed}
 
 -- the loop is at its end
@@ -104,11 +105,11 @@ module _ (ask : Ask) where
       let over = held_after b.ended t (left ask w b.resume) (scan.over w a) in
       rw (held, h.resume, over, h.found, e, append_assoc, rest)
 
-  took_good : (w : World) (s n : Slot) (o : Option Held) (outs : List (Result Batch AllocError)) → s.tablet ≡ o → IfSome o (λ t. IsOfWorld t ask w) → Took o outs s n → SlotGood ask w n
-  took_good w s n None outs e a h = let k : n.tablet ≡ None = ap (λ (x : Slot). x.tablet) h ∙ e in rw k tt
-  took_good w s n (Some t) [] e a h = absurd h
-  took_good w s n (Some t) (Err x ∷ outs) e a h = absurd h
-  took_good w s n (Some t) (Ok b ∷ outs) e a h =
+  took_held : (w : World) (s n : Slot) (o : Option Held) (outs : List (Result Batch AllocError)) → s.tablet ≡ o → IfSome o (λ t. IsOfWorld t ask w) → Took o outs s n → IfSome n.tablet (λ t. IsOfWorld t ask w)
+  took_held w s n None outs e a h = let k : n.tablet ≡ None = ap (λ (x : Slot). x.tablet) h ∙ e in rw k tt
+  took_held w s n (Some t) [] e a h = absurd h
+  took_held w s n (Some t) (Err x ∷ outs) e a h = absurd h
+  took_held w s n (Some t) (Ok b ∷ outs) e a h =
       let held : n.tablet ≡ tablet_after b.ended (Some t) = h.tablet ∙ ap (tablet_after b.ended) e in
       rw held (agrees_after w b.ended t a)
 
@@ -117,6 +118,12 @@ module _ (ask : Ask) where
   took_shard s n (Some t) ys [] e z h = absurd h
   took_shard s n (Some t) ys (Err x ∷ outs) e z h = absurd h
   took_shard s n (Some t) ys (Ok b ∷ outs) e z h = ap (λ (r : Resume). r.shard) h.resume ∙ (first_scan s t b e z.0).shard
+
+  took_good : (w : World) (s n : Slot) (ys : List Slot) (outs : List (Result Batch AllocError)) → SlotGood ask w s → AllZip (IsScanOf ask) (cond (is_some s.tablet) (s ∷ ys) ys) outs → Took s.tablet outs s n → SlotGood ask w n
+  took_good w s n ys outs a z h = record {
+    held = took_held w s n s.tablet outs refl a.held h;
+    own = own_same s.resume.shard n.resume.shard (slot_rest ask w s) (slot_rest ask w n) (took_shard s n s.tablet ys outs refl z h) (took_rest w s n s.tablet ys outs refl a.held z h) a.own;
+  }
 
   later : (s : Slot) (o : Option Held) (ys : List Slot) (outs : List (Result Batch AllocError)) → AllZip (IsScanOf ask) (cond (is_some o) (s ∷ ys) ys) outs → AllZip (IsScanOf ask) ys (outs_after o outs)
   later s None ys outs z = z
@@ -128,17 +135,18 @@ module _ (ask : Ask) where
   placed_rest w (s ∷ slots) [] outs z a p = absurd p
   placed_rest w (s ∷ slots) (n ∷ news) outs z a p =
       let ys = filter is_open slots in
-      let first : slot_rest ask w n ≡ slot_rest ask w s = took_rest w s n s.tablet ys outs refl (All-head (SlotGood ask w) s slots a) z p.0 in
+      let first : slot_rest ask w n ≡ slot_rest ask w s = took_rest w s n s.tablet ys outs refl (All-head (SlotGood ask w) s slots a).held z p.0 in
       let others : flat_map (slot_rest ask w) news ≡ flat_map (slot_rest ask w) slots = placed_rest w slots news (outs_after s.tablet outs) (later s s.tablet ys outs z) (All-tail (SlotGood ask w) s slots a) p.1 in
       ap (λ xs. xs ++ flat_map (slot_rest ask w) news) first ∙ ap (λ xs. slot_rest ask w s ++ xs) others
 
-  pub placed_agree : (w : World) (slots news : List Slot) (outs : List (Result Batch AllocError)) → SlotsGood ask w slots → Placed slots outs news → SlotsGood ask w news
-  placed_agree w [] news outs a p = rw p (All-nil (SlotGood ask w))
-  placed_agree w (s ∷ slots) [] outs a p = absurd p
-  placed_agree w (s ∷ slots) (n ∷ news) outs a p =
+  pub placed_agree : (w : World) (slots news : List Slot) (outs : List (Result Batch AllocError)) → AllZip (IsScanOf ask) (filter is_open slots) outs → SlotsGood ask w slots → Placed slots outs news → SlotsGood ask w news
+  placed_agree w [] news outs z a p = rw p (All-nil (SlotGood ask w))
+  placed_agree w (s ∷ slots) [] outs z a p = absurd p
+  placed_agree w (s ∷ slots) (n ∷ news) outs z a p =
+      let ys = filter is_open slots in
       All-cons (SlotGood ask w) n news
-      (took_good w s n s.tablet outs refl (All-head (SlotGood ask w) s slots a) p.0)
-      (placed_agree w slots news (outs_after s.tablet outs) (All-tail (SlotGood ask w) s slots a) p.1)
+      (took_good w s n ys outs (All-head (SlotGood ask w) s slots a) z p.0)
+      (placed_agree w slots news (outs_after s.tablet outs) (later s s.tablet ys outs z) (All-tail (SlotGood ask w) s slots a) p.1)
 
   pub placed_shards : (slots news : List Slot) (outs : List (Result Batch AllocError)) → AllZip (IsScanOf ask) (filter is_open slots) outs → Placed slots outs news → map (λ (s : Slot). s.resume.shard) news ≡ map (λ (s : Slot). s.resume.shard) slots
   placed_shards [] news outs z p = ap (map (λ (s : Slot). s.resume.shard)) p

@@ -1,6 +1,7 @@
 pub mod Asked
 pub mod Good
 pub mod Joined
+pub mod Marks
 pub mod Placed
 pub mod Reads
 pub mod Remains

@@ -1,6 +1,8 @@
 -- What a search of a slot promises, and how outputs are given to slots.
-use Rattle.std.specs.Prelude.{◌≡◌, ◌++◌, List, [], ◌∷◌, Bool, true, false, Option, Some, None, is_some, Result, Ok, Err, IfSome, IfOk, All}
+use Rattle.std.specs.Prelude.{◌≡◌, ◌++◌, ℕ, List, [], ◌∷◌, Bool, true, false, Option, Some, None, is_some, Result, Ok, Err, IfSome, IfOk, All}
+use Rattle.std.specs.List.{AllByRecursion}
 use Rattle.std.specs.declared.alloc.AllocError.{AllocError}
+use Rattle.dw_event.specs.declared.reports.Shown.{Shown}
 use Rattle.dw_derive.specs.World.{World}
 use Rattle.dw_tablet.specs.Held.{Held}
 use Rattle.dw_scan.specs.declared.ask.Ask.{Ask}
@@ -8,15 +10,20 @@ use Rattle.dw_scan.specs.declared.ask.Batch.{Batch}
 use Rattle.dw_scan.specs.declared.ask.Resume.{Resume}
 use Rattle.dw_scan.specs.Batches.{IsOfWorld}
 use Rattle.dw_page.specs.declared.slot.Slot.{Slot}
-use Rattle.dw_page.specs.Remains.{left}
+use Rattle.dw_page.specs.Remains.{left, slot_rest}
 
 -- the shard has not ended
 abbrev pub is_open : Slot → Bool
 is_open s = is_some s.tablet
 
--- the tablet that a slot holds is one of the world's
-abbrev pub SlotGood : Ask → World → Slot → Type 0
-SlotGood ask w s = IfSome s.tablet (λ t. IsOfWorld t ask w)
+-- an event is of a shard
+abbrev pub IsOf : List ℕ → Shown → Type 0
+IsOf shard x = x.shard ≡ shard
+
+-- the tablet that a slot holds is one of the world's, and all that it has yet to give is of its shard
+pub record SlotGood (ask : Ask) (w : World) (s : Slot) : Type 0 where
+  pub held : IfSome s.tablet (λ t. IsOfWorld t ask w)
+  pub own : AllByRecursion (IsOf s.resume.shard) (slot_rest ask w s)
 
 abbrev pub SlotsGood : Ask → World → List Slot → Type 0
 SlotsGood ask w slots = All (SlotGood ask w) slots

@@ -1,5 +1,8 @@
 -- Which reads a page makes.
-use Rattle.std.specs.Prelude.{◌≡◌, ◌++◌, ℕ, List, Option, map}
+use Rattle.std.specs.Prelude.{◌≡◌, ◌≤◌, ◌++◌, ◌∷◌, ◌+◌, ℕ, List, Option, map, length, take, filter}
+use Rattle.std.specs.Ordering.{nat_cmp, is_lt}
+use Rattle.std.specs.Cmp.Lexicographic.{slice_cmp}
+use Rattle.dw_event.specs.declared.reports.Shown.{Shown}
 use Rattle.dw_outside.specs.declared.cell.Reading.{Reading}
 use Rattle.dw_outside.specs.Reads.{reading_of, with_reads}
 use Rattle.dw_plan.specs.Reads.{Adds, is_of_index}
@@ -16,11 +19,16 @@ pub record Opens (before now : Option (List Reading)) (waiting rest : List Resum
   pub parts : waiting ≡ first ++ rest
   pub reads : now ≡ with_reads before (map (λ r. shard_read r.shard) first)
 
--- after reads of the indexes alone, the first of the shards that are hit were read, in order and each once
-pub record ReadsPage (before now : Option (List Reading)) (hits : List (List ℕ)) : Type 0 where
+-- how many of some shards stand before one
+abbrev pub count_before : List ℕ → List (List ℕ) → ℕ
+count_before shard shards = length (filter (λ k. is_lt (slice_cmp nat_cmp k shard)) shards)
+
+-- After reads of the indexes alone, the first so many of the shards that are walked were read, in order and each once. Where an
+-- event stands after the page, they are no more than those before its shard, and the workers.
+pub record ReadsPage (before now : Option (List Reading)) (shards : List (List ℕ)) (workers : ℕ) (past : List Shown) : Type 0 where
   pub planned : Option (List Reading)
   pub index : Adds is_of_index before planned
-  pub opened : List (List ℕ)
-  pub later : List (List ℕ)
-  pub parts : hits ≡ opened ++ later
-  pub reads : now ≡ with_reads planned (map shard_read opened)
+  pub count : ℕ
+  pub within : count ≤ length shards
+  pub reads : now ≡ with_reads planned (map shard_read (take count shards))
+  pub near : (next : Shown) (later : List Shown) → past ≡ next ∷ later → count ≤ count_before next.shard shards + workers

@@ -1,5 +1,5 @@
 -- What remains of an answer.
-use Rattle.std.specs.Prelude.{◌≡◌, ◌++◌, ℕ, List, [], ◌∷◌, Option, Some, None, IsSome}
+use Rattle.std.specs.Prelude.{◌≡◌, ◌++◌, ◌-◌, ℕ, List, [], ◌∷◌, Option, Some, None, IsSome, length, drop, map}
 use Rattle.std.specs.List.{flat_map}
 use Rattle.dw_event.specs.declared.reports.Shown.{Shown}
 use Rattle.dw_derive.specs.World.{World}
@@ -29,6 +29,18 @@ slot_rest ask w s = s.found ++ if_held s.tablet (left ask w s.resume)
 -- what remains of an answer: that of each slot, then that of each shard that waits
 abbrev pub remains : Ask → World → List Slot → List Resume → List Shown
 remains ask w slots waiting = flat_map (slot_rest ask w) slots ++ flat_map (left ask w) waiting
+
+-- the shards of some resumes
+abbrev pub shards_of : List Resume → List (List ℕ)
+shards_of waiting = map (λ r. r.shard) waiting
+
+-- the shards of the slots, then those that wait
+abbrev pub open_shards : List Slot → List Resume → List (List ℕ)
+open_shards slots waiting = map (λ s. s.resume.shard) slots ++ shards_of waiting
+
+-- those are the last of some shards
+abbrev pub AreLast : List (List ℕ) → List Slot → List Resume → Type 0
+AreLast all slots waiting = open_shards slots waiting ≡ drop (length all - length (open_shards slots waiting)) all
 
 -- there is no slot, or the first one is searched on and has nothing to give
 abbrev pub IsFlushed : List Slot → Type 0

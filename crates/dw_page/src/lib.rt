@@ -3,13 +3,15 @@
 //!
 //! `gather` knows the page alone, `walk` lines shards up, opens and flushes slots, `waves` searches them, `hand` gives
 //! the outputs to the slots, and `turn` is the loop. What the state means is `Good` (specs/Good), what remains of an
-//! answer `remains`, how the two are one list `Joined`.
+//! answer `remains`, how the two are one list `Joined`. Where a page ended is a `Mark`, from which the next one goes on
+//! (specs/Marks).
 #![tactic(auto)]
 
 mod gather;
 mod hand;
 mod job;
 mod line;
+mod mark;
 mod open;
 mod scan;
 mod settings;
@@ -22,6 +24,7 @@ pub use dw_base::OutOfMemory;
 pub use gather::Gather;
 pub use hand::hand_out;
 pub use job::ScanJob;
+pub use mark::{Mark, MarkPlace};
 pub use scan::scan_quietly;
 pub use settings::Settings;
 pub use slot::Slot;

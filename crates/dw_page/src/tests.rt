@@ -1,7 +1,7 @@
 ghost use Rattle.std.specs.Prelude.{◌≡◌, ◌≤◌, true, IfOk};
 ghost use Rattle.dw_plan.specs.PlanLaws.{is_ruled};
 
-use crate::{Settings, Turned, turn_page};
+use crate::{Mark, MarkPlace, Settings, Turned, turn_page};
 use dw_base::{Bytes, Listed, Text};
 use dw_derive::entries;
 use dw_dict::{Dict, FieldRule};
@@ -10,8 +10,9 @@ use dw_event::{Cells, Days, Event, EventCell, Types};
 use dw_jexl::{Query, parse};
 use dw_key::{DType, DocKey};
 use dw_norm::Kind;
-use dw_outside::{Keeper, MemKeeper, Put};
+use dw_outside::{Keeper, MemKeeper, Put, Reading};
 use dw_plan::{anchored, bound_are_ruled};
+use dw_pool::OpenGate;
 use dw_scan::Ask;
 use dw_vis::{Auths, Vis};
 use std::alloc::{AllocError, Global};
@@ -152,8 +153,39 @@ fn days(alloc: Global) -> Result<Days, AllocError> {
     })
 }
 
-/// A page, over a keeper and an ask of its own.
-fn turned<R: Threads + Sync>(rt: &R, alloc: Global, how: How, page: u32) -> Result<Turned, Fail>
+/// The shards that the query of the tests hits, and a letter for each.
+const HITS: [(&str, char); 3] = [
+    ("20240101_0", 'a'),
+    ("20240102_10", 'b'),
+    ("20240131_2", 'c'),
+];
+
+/// The letters of the shards that were read.
+fn letters(alloc: Global, keeper: &MemKeeper) -> Result<String, AllocError> {
+    let mut out = String::new(alloc);
+    for read in keeper.reads() {
+        put_letter(&mut out, read)?;
+    }
+    Ok(out)
+}
+
+fn put_letter(out: &mut String, read: &Reading) -> Result<(), AllocError> {
+    for (shard, letter) in HITS {
+        if read.table == 0 && read.from.as_slice().starts_with(shard.as_bytes()) {
+            out.push(letter)?;
+        }
+    }
+    Ok(())
+}
+
+/// A page, over a keeper and an ask of its own, and the letters of the shards that were read.
+fn turned<R: Threads + Sync>(
+    rt: &R,
+    alloc: Global,
+    how: How,
+    mark: Option<&Mark>,
+    page: u32,
+) -> Result<(Turned, String), Fail>
     requires { 1 ≤ page }
 {
     let ask = ask(alloc)?;
@@ -167,19 +199,26 @@ fn turned<R: Threads + Sync>(rt: &R, alloc: Global, how: How, page: u32) -> Resu
         rt,
         alloc,
         &mut keeper,
+        &OpenGate,
         &ask,
         &days,
         how.size,
+        mark,
         page,
         &settings,
     )?;
-    Ok(turned)
+    let read = letters(alloc, &keeper)?;
+    Ok((turned, read))
+}
+
+fn number(key: &DocKey) -> char {
+    char::from(b'0' + key.uid[31] % 10)
 }
 
 /// The numbers of the events shown, and a stroke where more follow.
 fn put_page(out: &mut String, turned: &Turned) -> Result<(), AllocError> {
     for event in turned.shown.as_slice() {
-        out.push(char::from(b'0' + event.key.uid[31] % 10))?;
+        out.push(number(&event.key))?;
     }
     if turned.more {
         out.push('|')?;
@@ -187,15 +226,29 @@ fn put_page(out: &mut String, turned: &Turned) -> Result<(), AllocError> {
     Ok(())
 }
 
-/// All pages, one after another.
-fn pages<R: Threads + Sync>(rt: &R, alloc: Global, how: How) -> Result<String, Fail> {
+/// The page, the number of the event that its mark names or a dot at the end, and the shards that were read.
+fn put_turn(out: &mut String, turned: &Turned, read: &str) -> Result<(), AllocError> {
+    put_page(out, turned)?;
+    let end = match &turned.mark.place {
+        MarkPlace::At { key, .. } => number(key),
+        MarkPlace::End => '.',
+    };
+    out.push(end)?;
+    out.push_str(read)?;
+    Ok(())
+}
+
+/// All pages, one after another, each with the mark of the one before or with none.
+fn pages<R: Threads + Sync>(rt: &R, alloc: Global, how: How, marked: bool) -> Result<String, Fail> {
     let mut out = String::new(alloc);
+    let mut mark = None;
     for page in 1..10u32 {
-        let turned = turned(rt, alloc, how, page)?;
+        let (turned, _read) = turned(rt, alloc, how, mark.as_ref(), page)?;
         put_page(&mut out, &turned)?;
         if !turned.more {
             return Ok(out);
         }
+        mark = if marked { Some(turned.mark) } else { None };
     }
     Err(Fail::from("it does not end"))
 }
@@ -217,8 +270,10 @@ fn check<R: Threads + Sync + Abort>(
     how: How,
     wanted: &str,
 ) -> Result<(), Fail> {
-    let text = pages(rt, alloc, how)?;
-    assert_eq!(rt; text.as_str(), wanted);
+    for marked in [false, true] {
+        let text = pages(rt, alloc, how, marked)?;
+        assert_eq!(rt; text.as_str(), wanted);
+    }
     Ok(())
 }
 
@@ -240,32 +295,87 @@ fn pages_join_to_the_answer(rt: HostRuntime) -> Result<(), Fail> {
     Ok(())
 }
 
-/// A page, its size, and what it shows.
-const ALONE: [(u32, u32, &str); 6] = [
-    (1, 0, "|"),
-    (7, 0, "|"),
-    (3, 2, "78"),
-    (4, 2, ""),
-    (4_294_967_295, 4_294_967_295, ""),
-    (2, 5, "8"),
+/// The workers, the size of a page, and the pages in turn up to the first that shows nothing: what each shows, where it ends
+/// and which shards it reads. A page begins in the shard in which the one before ended.
+const TURNS: [(u32, u32, &str); 4] = [
+    (1, 1, "1|1a 2|2a 4|4ab 6|6abc 7|7bc 8.c ."),
+    (1, 2, "12|2a 46|6abc 78.bc ."),
+    (2, 2, "12|2ab 46|6abc 78.bc ."),
+    (3, 4, "1246|6abc 78.bc ."),
 ];
+
+fn in_turn<R: Threads + Sync>(rt: &R, alloc: Global, how: How) -> Result<String, Fail> {
+    let mut out = String::new(alloc);
+    let mut mark = None;
+    for page in 1..10u32 {
+        let (turned, read) = turned(rt, alloc, how, mark.as_ref(), page)?;
+        put_turn(&mut out, &turned, read.as_str())?;
+        if turned.shown.as_slice().is_empty() {
+            return Ok(out);
+        }
+        out.push(' ')?;
+        mark = Some(turned.mark);
+    }
+    Err(Fail::from("it does not end"))
+}
+
+#[test]
+fn pages_go_on_from_marks(rt: HostRuntime) -> Result<(), Fail> {
+    let alloc = rt.alloc();
+    for (workers, size, wanted) in TURNS {
+        let how = How {
+            size,
+            workers,
+            batch: 1000,
+        };
+        let text = in_turn(&rt, alloc, how)?;
+        assert_eq!(rt; text.as_str(), wanted);
+    }
+    Ok(())
+}
+
+/// The page of a mark, or 0 for none, a page, its size, and what is shown and read. Only the mark of the page before is gone
+/// on from.
+const ALONE: [(u32, u32, u32, &str); 11] = [
+    (0, 1, 0, "|.ab"),
+    (0, 7, 0, "|.ab"),
+    (0, 3, 2, "78.abc"),
+    (0, 4, 2, ".abc"),
+    (0, 4_294_967_295, 4_294_967_295, ".abc"),
+    (0, 2, 5, "8.abc"),
+    (1, 1, 2, "12|2ab"),
+    (1, 3, 2, "78.abc"),
+    (2, 3, 2, "78.bc"),
+    (3, 2, 2, "46|6abc"),
+    (3, 4, 2, "."),
+];
+
+fn mark_of<R: Threads + Sync>(
+    rt: &R,
+    alloc: Global,
+    how: How,
+    page: u32,
+) -> Result<Option<Mark>, Fail> {
+    if page < 1 {
+        return Ok(None);
+    }
+    let (turned, _read) = turned(rt, alloc, how, None, page)?;
+    Ok(Some(turned.mark))
+}
 
 fn check_alone<R: Threads + Sync + Abort>(
     rt: &R,
     alloc: Global,
+    how: How,
+    mark: u32,
     page: u32,
-    size: u32,
     wanted: &str,
 ) -> Result<(), Fail> {
     if page >= 1 {
-        let how = How {
-            size,
-            workers: 2,
-            batch: 2,
-        };
-        let turned = turned(rt, alloc, how, page)?;
+        let mark = mark_of(rt, alloc, how, mark)?;
+        let (turned, read) = turned(rt, alloc, how, mark.as_ref(), page)?;
         let mut text = String::new(alloc);
-        put_page(&mut text, &turned)?;
+        put_turn(&mut text, &turned, read.as_str())?;
         assert_eq!(rt; text.as_str(), wanted);
     }
     Ok(())
@@ -274,8 +384,13 @@ fn check_alone<R: Threads + Sync + Abort>(
 #[test]
 fn a_page_needs_no_page_before(rt: HostRuntime) -> Result<(), Fail> {
     let alloc = rt.alloc();
-    for (page, size, wanted) in ALONE {
-        check_alone(&rt, alloc, page, size, wanted)?;
+    for (mark, page, size, wanted) in ALONE {
+        let how = How {
+            size,
+            workers: 2,
+            batch: 2,
+        };
+        check_alone(&rt, alloc, how, mark, page, wanted)?;
     }
     Ok(())
 }

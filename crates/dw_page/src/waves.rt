@@ -8,7 +8,7 @@ ghost use Rattle.dw_page.specs.Waves.{IsJobOf};
 use crate::job::ScanJob;
 use crate::slot::Slot;
 use dw_base::OutOfMemory;
-use dw_pool::{OpenGate, run_wave};
+use dw_pool::{Gate, run_wave};
 use dw_scan::{Ask, Batch};
 use std::alloc::Global;
 use std::thread::Threads;
@@ -44,10 +44,11 @@ fn jobs_of<'a>(
     Ok(jobs)
 }
 
-/// Searches the shard of each open slot, in order, on at most so many threads.
-pub fn run_batches<R: Threads + Sync>(
+/// Searches the shard of each open slot, in order, on at most so many threads, each search through the gate.
+pub fn run_batches<R: Threads + Sync, G: Gate>(
     rt: &R,
     alloc: Global,
+    gate: &G,
     slots: &[Slot],
     ask: &Ask,
     workers: u32,
@@ -64,5 +65,5 @@ pub fn run_batches<R: Threads + Sync>(
     ensures { IfOk result (λ outs. AllZip (IsScanOf ask.now) (filter is_open slots.now) outs.items) }
 {
     let jobs = jobs_of(alloc, slots, ask, budget, want)?;
-    run_wave(rt, alloc, jobs, workers, &OpenGate)
+    run_wave(rt, alloc, jobs, workers, gate)
 }

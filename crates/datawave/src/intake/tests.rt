@@ -1,35 +1,59 @@
 //! The end of a run that is too long to be shown whole.
-use crate::by_lines::ByLines;
+use crate::command::{Command, Form};
 use crate::exchange::Broken;
 use crate::intake::{Talk, end_of, exchange_all};
-use crate::record_lines::RecordLines;
-use crate::record_table::RecordTable;
-use crate::request_lines::RequestLines;
 use crate::status::Status;
+use crate::tools::Tools;
+use crate::usual_settings;
 use crate::work::Work;
 use dw_desk::Desk;
 use dw_event::MarkUid;
-use dw_key::{Bytes, OutOfMemory};
-use dw_outside::{MemSink, MemSource};
+use dw_key::Bytes;
+use dw_outside::{MemKeeper, MemSink, MemSource};
+use dw_pool::OpenGate;
 use std::alloc::Global;
 use std::test::Fail;
+use std::thread::Threads;
+
+const JSON: Command = Command::Ingest { form: Form::Json };
+
+const CSV: Command = Command::Ingest { form: Form::Csv };
 
 /// How a run ends that has taken all but four bytes of what it may take, where these are left.
-fn ends_after<W: Work>(alloc: Global, work: W, left: &str) -> Result<(Status, Bytes), OutOfMemory> {
-    let total = work.most().saturating_sub(4);
+fn ends_after<R: Threads + Sync>(
+    rt: &R,
+    alloc: Global,
+    work: Work,
+    left: &str,
+) -> Result<(Status, Bytes), Fail> {
+    let most = work.most();
+    let total = most.saturating_sub(4);
     let mut source = MemSource::new(Bytes::of(alloc, left.as_bytes())?, 16, Vec::new(alloc));
     let mut sink = MemSink::new(alloc, 100, Vec::new(alloc))?;
+    let mut keeper = MemKeeper::without_reads(alloc);
+    let Ok(desk) = Desk::load(alloc, &mut keeper) else {
+        return Err("no desk")?;
+    };
+    let tools = Tools {
+        rt,
+        alloc,
+        uids: &MarkUid,
+        gate: &OpenGate,
+        settings: usual_settings(alloc)?,
+    };
     let mut talk = Talk {
-        desk: Desk::new(alloc),
+        desk,
         work,
+        most,
         total,
     };
     let mut buffer = [0u8; 8];
+    let buffer = buffer.as_mut_slice();
     let status = exchange_all(
-        alloc,
-        &MarkUid,
+        &tools,
+        &mut keeper,
         &mut talk,
-        buffer.as_mut_slice(),
+        buffer,
         &mut source,
         &mut sink,
     );
@@ -41,15 +65,17 @@ fn a_byte_too_many_ends_the_run(rt: HostRuntime) -> Result<(), Fail> {
     let shape = "{\"error\":\"malformed\",\"why\":\"shape\"}\n";
     let json = "{\"error\":\"malformed\",\"why\":\"json\"}\n";
     let (status, written) = ends_after(
+        &rt,
         rt.alloc(),
-        ByLines::new(rt.alloc(), RequestLines),
+        Work::of(rt.alloc(), Command::Exec),
         "[]\n[",
     )?;
     assert!(rt; status == Status::Done);
     assert!(rt; written.as_slice().len() == shape.len() + json.len());
     let (status, written) = ends_after(
+        &rt,
         rt.alloc(),
-        ByLines::new(rt.alloc(), RequestLines),
+        Work::of(rt.alloc(), Command::Exec),
         "[]\n[]",
     )?;
     assert!(rt; status == Status::TooMuch);
@@ -61,21 +87,13 @@ fn a_byte_too_many_ends_the_run(rt: HostRuntime) -> Result<(), Fail> {
 fn a_byte_too_many_ends_the_taking(rt: HostRuntime) -> Result<(), Fail> {
     let shape =
         "{\"bad\":[{\"at\":0,\"why\":\"shape\"}],\"new\":0,\"ok\":\"ingest\",\"repeat\":0}\n";
-    let (status, written) = ends_after(
-        rt.alloc(),
-        ByLines::new(rt.alloc(), RecordLines::new(rt.alloc())),
-        "[]\n[",
-    )?;
+    let (status, written) = ends_after(&rt, rt.alloc(), Work::of(rt.alloc(), JSON), "[]\n[")?;
     assert!(rt; status == Status::Done && !written.as_slice().is_empty());
-    let (status, written) = ends_after(
-        rt.alloc(),
-        ByLines::new(rt.alloc(), RecordLines::new(rt.alloc())),
-        "[]\n[]",
-    )?;
+    let (status, written) = ends_after(&rt, rt.alloc(), Work::of(rt.alloc(), JSON), "[]\n[]")?;
     assert!(rt; status == Status::TooMuch && written.as_slice().is_empty());
-    let (status, written) = ends_after(rt.alloc(), RecordTable::new(rt.alloc()), "a\nb\n")?;
+    let (status, written) = ends_after(&rt, rt.alloc(), Work::of(rt.alloc(), CSV), "a\nb\n")?;
     assert!(rt; status == Status::Done && written.as_slice() == shape.as_bytes());
-    let (status, written) = ends_after(rt.alloc(), RecordTable::new(rt.alloc()), "a\nb\nc")?;
+    let (status, written) = ends_after(&rt, rt.alloc(), Work::of(rt.alloc(), CSV), "a\nb\nc")?;
     assert!(rt; status == Status::TooMuch && written.as_slice().is_empty());
     Ok(())
 }

@@ -1,5 +1,5 @@
 //! A day of a laboratory: 200 rows of CSV as one request line, and queries of them.
-use super::ends;
+use super::{NEVER, ends};
 use crate::status::Status;
 use dw_event::ShaUid;
 use dw_key::OutOfMemory;
@@ -82,7 +82,7 @@ fn a_day_of_a_laboratory_is_taken_in_and_found(rt: HostRuntime) -> Result<(), Fa
     let alloc = rt.alloc();
     let line = ingest_line(alloc)?;
     let script = format!(in alloc; "{DEFINITIONS}{line}{line}{QUERIES}")?;
-    let (status, written) = ends(alloc, &ShaUid, script.as_str(), 0, 0)?;
+    let (status, written) = ends(&rt, rt.alloc(), &ShaUid, script.as_str(), NEVER)?;
     assert!(rt; status == Status::Done);
     let text = String::from_utf8_lossy(alloc, written.as_slice())?;
     let mut replies = Vec::new(alloc);

@@ -159,16 +159,34 @@ fn from(alloc: Global, first: u64) -> Result<Vec<u64>, Fail> {
     Ok(calls)
 }
 
+const LEAVES: [Leave; 4] = [Leave::Old, Leave::New, Leave::Byte(0), Leave::Byte(1)];
+
 #[test]
-fn a_stop_leaves_the_batches_that_were_acknowledged(rt: HostRuntime) -> Result<(), Fail> {
+fn a_disk_that_never_fails_acknowledges_all(rt: HostRuntime) -> Result<(), Fail> {
     let alloc = rt.alloc();
     let whole = MemDisk::new(alloc, 16_384, 256, Vec::new(alloc))?;
     let (_, told) = take_five(alloc, whole)?;
     assert!(rt; told.len() == 5 && told.iter().all(|it| *it));
+    Ok(())
+}
+
+#[test]
+fn a_stop_leaves_the_batches_that_were_acknowledged(rt: HostRuntime) -> Result<(), Fail> {
+    let alloc = rt.alloc();
     for call in 1..41 {
-        for leave in [Leave::Old, Leave::New, Leave::Byte(0), Leave::Byte(1)] {
+        for leave in LEAVES {
             let one = survives(alloc, vec![in alloc; call]?, leave)?;
             assert!(rt; one, "call {call} fails, {leave:?}");
+        }
+    }
+    Ok(())
+}
+
+#[test]
+fn a_stop_of_a_disk_that_fails_for_good_leaves_them_too(rt: HostRuntime) -> Result<(), Fail> {
+    let alloc = rt.alloc();
+    for call in 1..41 {
+        for leave in LEAVES {
             let all = survives(alloc, from(alloc, call)?, leave)?;
             assert!(rt; all, "all from call {call} on fail, {leave:?}");
         }

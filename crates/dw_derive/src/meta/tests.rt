@@ -12,10 +12,9 @@ fn cells_of_table_three(rt: HostRuntime) -> Result<(), Fail> {
     let field = field_cell(alloc, "A", rule)?;
     assert!(rt; field.content.as_slice() == [4, 1, 0].as_slice());
     let mut names = Listed::new(alloc);
-    names.put(Text::of(alloc, "S")?)?;
     names.put(Text::of(alloc, "AB")?)?;
     names.put(Text::of(alloc, "S")?)?;
-    let grant = grant_cell(alloc, "ann", &names)?;
+    let grant = grant_cell(alloc, "ann", names.as_slice())?;
     assert!(rt; grant.content.as_slice() == b"\0\x02AB\0\x01S".as_slice());
     Ok(())
 }

@@ -42,9 +42,9 @@ fn the_cell_of_a_field_is_read(rt: HostRuntime) -> Result<(), Fail> {
 #[test]
 fn the_cell_of_a_grant_is_read(rt: HostRuntime) -> Result<(), Fail> {
     let mut names = Listed::new(rt.alloc());
-    names.put(Text::of(rt.alloc(), "S")?)?;
     names.put(Text::of(rt.alloc(), "AB")?)?;
-    let put = grant_cell(rt.alloc(), "ann", &names)?;
+    names.put(Text::of(rt.alloc(), "S")?)?;
+    let put = grant_cell(rt.alloc(), "ann", names.as_slice())?;
     let key = key_of_put(rt.alloc(), &put)?;
     let said = grant_names(rt.alloc(), &key, put.content.as_slice())?;
     let (caller, names) = said.ok_or("no grant")?;

@@ -1,13 +1,14 @@
-use Rattle.datawave.proofs.Running.{ends_at_start, progress_start}
-use Rattle.dw_desk.specs.Desk.{state_of}
+use Rattle.std.proofs.Common.{◌∙◌, sym}
+use Rattle.datawave.specs.Outside.{seen}
+use Rattle.datawave.specs.Working.{Held}
+use Rattle.datawave.proofs.Running.{ends_begun, progress_start}
 use Rattle.datawave.proofs.intake.work_through.Goals as goal
 
 pub returns-in_default-clause-runs : goal.returns-in_default-clause-runs
-returns-in_default-clause-runs g c = ends_at_start g.U.UidMaker.digest g.W.Work.reading (g.S.Source.left c.args.input.now) (g.O.Sink.taken c.args.output.now) g.met.W.Work.begins
+returns-in_default-clause-runs g c reading w before fresh begun = ends_begun g.U.UidMaker.digest reading w (g.S.Source.left c.args.input.now) before (seen (g.K.Keeper.told c.args.keeper.now) (g.K.Keeper.faults c.args.keeper.now) (g.O.Sink.taken c.args.output.now)) c.args.desk begun fresh.begins
 
 pub returns-clause-runs : goal.returns-clause-runs
-returns-clause-runs g c =
+returns-clause-runs g c reading w before fresh begun =
     let left = g.S.Source.left c.args.input.now in
-    let out = g.O.Sink.taken c.args.output.now in
-    c.exchange_all.ensures.runs left out
-    (progress_start g.U.UidMaker.digest g.W.Work.reading (g.W.Work.holds c.args.work) left out (state_of c.new.result) c.new.ensures g.met.W.Work.begins c.requires)
+    c.exchange_all.ensures.runs reading w left before (fresh.most ∙ sym c.most-most.ensures.is)
+    (progress_start g.U.UidMaker.digest reading (Held reading c.args.work) w left before (seen (g.K.Keeper.told c.args.keeper.now) (g.K.Keeper.faults c.args.keeper.now) (g.O.Sink.taken c.args.output.now)) c.args.desk begun fresh.begins fresh.held)

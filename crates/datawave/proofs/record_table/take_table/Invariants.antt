@@ -1,9 +1,11 @@
-use Rattle.std.proofs.Common.{◌≡◌, ◌<◌, ◌≤◌, ℕ, [], List, Option, Some}
+use Rattle.std.proofs.Common.{◌≡◌, ◌<◌, ◌≤◌, ℕ, [], List, Some}
 use Rattle.csv.specs.Reading.{Reached, Ready, default_config, source_of, strip_bom}
 use Rattle.csv.specs.declared.parser.State.TheVariants as st
 use Rattle.csv.specs.declared.reader.Trim.TheVariants as trim
-use Rattle.dw_desk.specs.Desk.{state_of}
-use Rattle.dw_desk.specs.State.{start}
+use Rattle.dw_derive.specs.World.{World}
+use Rattle.dw_groups.specs.Batches.{rows_records}
+use Rattle.datawave.specs.Groups.{full_ingests}
+use Rattle.datawave.specs.Outside.{Outside, seen}
 use Rattle.datawave.specs.Exchange.{RequestsPut, Tabled}
 use Rattle.datawave.proofs.record_table.take_table.Given as goal
 
@@ -12,5 +14,5 @@ invariant-loop-row g l = (l.row-iterator.rdr.trim ≡ trim.None) × Ready l.row-
     × (y : List ℕ) × (source_of (λ s. Some s.now) l.row-iterator.rdr ≡ Some y)
     × (rows : List (List (List ℕ))) × Reached default_config st.StartRecord (strip_bom l.fn.text) rows l.row-iterator.rdr.state y
     × (g.O.Sink.faults l.fn.output ≤ g.O.Sink.faults l.output)
-    × ((out : Option (List ℕ)) → RequestsPut g.U.UidMaker.digest start out [] (state_of l.fn.desk) (g.O.Sink.taken l.fn.output)
-    → Tabled g.U.UidMaker.digest out rows (state_of l.desk) l.table.header l.table.group (g.O.Sink.taken l.output))
+    × ((w : World) (before : Outside) → RequestsPut g.U.UidMaker.digest w before [] l.fn.desk (seen (g.K.Keeper.told l.fn.keeper) (g.K.Keeper.faults l.fn.keeper) (g.O.Sink.taken l.fn.output))
+    → Tabled rows l.table.header l.table.group × RequestsPut g.U.UidMaker.digest w before (full_ingests (rows_records rows)) l.desk (seen (g.K.Keeper.told l.keeper) (g.K.Keeper.faults l.keeper) (g.O.Sink.taken l.output)))

@@ -2,9 +2,9 @@ use Rattle.std.proofs.Common.{◌≤◌, List, ap, sym, subst, ◌∙◌, map}
 use Rattle.std.specs.Prelude.{All}
 use Rattle.dw_derive.specs.declared.event_cells.Entry.{Entry}
 use Rattle.dw_outside.specs.declared.cell.Put.{Put}
-use Rattle.dw_ingest.specs.Fitting.{FitsTables}
-use Rattle.dw_ingest.proofs.EntryTables.{tables_fit, applied_fits}
-use Rattle.dw_outside.specs.Tables.{Tables, applied, over}
+use Rattle.dw_ingest.proofs.EntryTables.{tables_fit}
+use Rattle.dw_outside.specs.Tables.{Tables, HasFourTables, applied, over}
+use Rattle.dw_outside.proofs.FourTables.{applied_fits}
 use Rattle.dw_derive.specs.Entries.{event_of, slot_of}
 use Rattle.dw_derive.specs.Laws.{put_of}
 use Rattle.dw_derive.proofs.Stepping.{set_stepped}
@@ -25,6 +25,6 @@ returns-clause-batch g c t is =
 
 pub returns-clause-fits : goal.returns-clause-fits
 returns-clause-fits g c h =
-    let P : Tables → Type 0 = FitsTables in
+    let P : Tables → Type 0 = HasFourTables in
     subst P (sym c.in_ok-apply.ensures.ok) (applied_fits c.as_slice-2.result.now c.args.batch.now h
     (let Q : List Put → Type 0 = All (λ p. p.table ≤ 3) in subst Q (sym c.as_slice-2.ensures.value) c.in_ok-puts.ensures.fits))

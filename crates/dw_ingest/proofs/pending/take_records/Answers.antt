@@ -1,9 +1,9 @@
 use Rattle.std.proofs.Common.{rules, ◌+◌, ◌∷◌, drop, ap, sym, subst, refl, ◌∙◌, arith}
 use Rattle.dw_event.specs.Take.{Taken, none_taken, with_record, with_records}
+use Rattle.dw_outside.specs.Tables.{HasFourTables}
+use Rattle.dw_outside.proofs.FourTables.{empty_fits}
 use Rattle.dw_ingest.specs.Going.{Going, AreWellFormed}
-use Rattle.dw_ingest.specs.Fitting.{FitsTables}
 use Rattle.dw_ingest.proofs.Items.{drop_item, drop_past}
-use Rattle.dw_ingest.proofs.EntryTables.{empty_fits}
 use Rattle.dw_ingest.proofs.Steps.{going_first}
 use Rattle.dw_ingest.proofs.pending.take_records.Goals as goal
 
@@ -14,7 +14,7 @@ loop-rec-init g c = record {
   repeat = search rules;
   same = refl;
   going = λ w t told is dict has all. (none_taken w.events, going_first w t c.new-pending.result has is c.new-pending.ensures.batch c.new-pending.ensures.news c.new-pending.ensures.tally, all, refl);
-  fits = subst FitsTables (sym c.new-pending.ensures.batch) empty_fits;
+  fits = subst HasFourTables (sym c.new-pending.ensures.batch) empty_fits;
   unasked = refl;
   counted = omega arith;
 }

@@ -1,14 +1,13 @@
 use Rattle.std.proofs.Common.{◌≤◌, List, ap, sym, subst, ◌∙◌, map}
 use Rattle.std.specs.Prelude.{All}
 use Rattle.dw_outside.specs.declared.cell.Put.{Put}
-use Rattle.dw_outside.specs.Tables.{Tables, applied}
+use Rattle.dw_outside.specs.Tables.{Tables, HasFourTables, applied}
+use Rattle.dw_outside.proofs.FourTables.{applied_fits}
 use Rattle.dw_derive.specs.declared.event_cells.Entry.{Entry}
 use Rattle.dw_derive.specs.Entries.{event_of, slot_of}
 use Rattle.dw_derive.specs.Laws.{put_of}
 use Rattle.dw_derive.specs.Indexing.{entries_added}
 use Rattle.dw_derive.proofs.Stepping.{set_applied}
-use Rattle.dw_ingest.specs.Fitting.{FitsTables}
-use Rattle.dw_ingest.proofs.EntryTables.{applied_fits}
 use Rattle.dw_ingest.proofs.NewIndexes.{added_fit}
 use Rattle.dw_ingest.proofs.reindexing.add_index.Goals as goal
 
@@ -27,6 +26,6 @@ returns-clause-batch c =
 
 pub returns-clause-fits : goal.returns-clause-fits
 returns-clause-fits c h =
-    let P : Tables → Type 0 = FitsTables in
+    let P : Tables → Type 0 = HasFourTables in
     subst P (sym c.in_ok-apply.ensures.ok) (applied_fits c.as_slice-2.result.now c.args.batch.now h
     (let Q : List Put → Type 0 = All (λ p. p.table ≤ 3) in subst Q (sym c.as_slice-2.ensures.value) c.in_ok-puts.ensures.fits))

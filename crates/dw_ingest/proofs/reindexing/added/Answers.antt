@@ -9,10 +9,9 @@ use Rattle.dw_derive.specs.EventsRead.{code_says, held_after}
 use Rattle.dw_derive.specs.Indexing.{slots_added, all_stepped}
 use Rattle.dw_derive.specs.Tables.{tables}
 use Rattle.dw_ingest.proofs.NewIndexes.{keys_of_pairs, none_stepped, same_events}
-use Rattle.dw_ingest.proofs.EntryTables.{empty_fits}
-use Rattle.dw_ingest.specs.Fitting.{FitsTables}
 use Rattle.dw_ingest.specs.Reindexed.{adds_cells}
-use Rattle.dw_outside.specs.Tables.{Tables}
+use Rattle.dw_outside.specs.Tables.{Tables, HasFourTables}
+use Rattle.dw_outside.proofs.FourTables.{empty_fits}
 use Rattle.dw_ingest.proofs.reindexing.added.Goals as goal
 
 pub returns-clause-added : goal.returns-clause-added
@@ -40,4 +39,4 @@ returns-then-not-adds-clause-added g c w has dict wide told =
     ∙ c.indexes_are_steps.ensures w field c.args.rule has (subst P (sym dict) wide)
 
 pub returns-then-not-adds-clause-fits : goal.returns-then-not-adds-clause-fits
-returns-then-not-adds-clause-fits g c = let P : Tables → Type 0 = FitsTables in subst P (sym c.new.ensures) empty_fits
+returns-then-not-adds-clause-fits g c = let P : Tables → Type 0 = HasFourTables in subst P (sym c.new.ensures) empty_fits

@@ -1,4 +1,4 @@
-use Rattle.std.proofs.Common.{◌≡◌, ◌<◌, ◌≤◌, ℕ, length, take, slice_index}
+use Rattle.std.proofs.Common.{◌≡◌, ◌<◌, ℕ, length, take, slice_index}
 use Rattle.dw_outside.specs.Disks.{IsLoose}
 use Rattle.dw_outside.proofs.mem_disk.fill_ranges.Given as goal
 

@@ -35,5 +35,5 @@ returns c =
       placed = placed;
       shards = placed_shards ask slots news outs c.requires placed;
       rest = λ w a. placed_rest ask w slots news outs c.requires a placed;
-      agree = λ w a. placed_agree ask w slots news outs a placed;
+      agree = λ w a. placed_agree ask w slots news outs c.requires a placed;
     }

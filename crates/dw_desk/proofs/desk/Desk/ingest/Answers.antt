@@ -1,56 +1,102 @@
-use Rattle.std.proofs.Common.{◌≡◌, ◌+◌, ap, ◌∙◌, sym, subst, refl, inl, inr, Ok, ℕ, List, Option, Result}
-use Rattle.dw_wire.specs.declared.reply.Reply.TheVariants.{Ingested, Spent}
-use Rattle.dw_wire.specs.declared.request.Request.TheVariants.{Ingest}
+use Rattle.std.proofs.Common.{◌≡◌, ◌≢◌, refl, sym, ap, ◌∙◌, inl, inr, subst, arith, List, Result, Err, Some}
 use Rattle.dw_event.specs.declared.records.Record.{Record}
 use Rattle.dw_event.specs.declared.reports.BadRecord.{BadRecord}
-use Rattle.dw_desk.specs.declared.take.Tally.{Tally}
-use Rattle.dw_event.specs.Take.{Event}
-use Rattle.dw_desk.specs.State.{State}
-use Rattle.dw_event.specs.Take.{Taken, none_taken, with_records, last_after}
-use Rattle.dw_desk.specs.Step.{step, with_world}
-use Rattle.dw_desk.specs.Desk.{state_of, Replies, BatchTaken, taken_of}
-use Rattle.dw_desk.proofs.DeskLemmas.{world_of_parts, ingested_taken, ingested_spent, added_some, added_none}
+use Rattle.dw_event.specs.Take.{Taken, taken, last_after, report_of}
+use Rattle.dw_derive.specs.Tables.{tables}
+use Rattle.dw_derive.specs.Lawful.{IsWorld}
+use Rattle.dw_ingest.specs.Going.{AreWellFormed}
+use Rattle.dw_ingest.specs.Ingested.{after_taken}
+use Rattle.dw_wire.specs.declared.reply.Reply.TheVariants.{Ingested}
+use Rattle.dw_desk.specs.Stands.{grants_of, kept_of, state_of}
+use Rattle.dw_desk.proofs.DeskLemmas.{ingested_from, ingested_spent, state_at}
+use Rattle.dw_desk.proofs.Doing.{holds_kept, ingest_accepted, last_taken, later_same, later_taken, unspent_new}
 use Rattle.dw_desk.proofs.desk.Desk.ingest.Goals as goal
-use Rattle.dw_desk.proofs.desk.Desk.ingest.Goals.{then-tally-gt0, else-tally-gt0}
+use Rattle.dw_desk.proofs.desk.Desk.ingest.Goals.{then-report-gt0, else-report-gt0}
 
 abbrev Records : Type 0
 Records = List (Result Record BadRecord)
 
-pub returns-after-tally-gt0 : goal.returns-after-tally-gt0
-unfolding step state_of
-returns-after-tally-gt0 g c =
+pub returns-after-report-gt0-clause-does : goal.returns-after-report-gt0-clause-does
+returns-after-report-gt0-clause-does g c = λ w holds formed.
     let d = c.args.self.now in
-    let w : State = state_of d in
-    let all : Taken = with_records g.U.UidMaker.digest (d.last + 1) (none_taken d.events.entries) c.as_slice-all.result.now in
-    let events = c.take_batch.new.events in
-    let tally = c.in-Ok-Some.tally in
-    let taken = subst (λ (o : Option Tally). BatchTaken d.last all d.events events o) c.in-Ok-Some.field-0-is c.in-Ok-Some.ensures.taken in
-    let at : c.if-tally-gt0.self.last ≡ last_after w.world.last (taken_of events tally) = elim c.if-tally-gt0.branch [
-      | then-tally-gt0 t ↦ ap (λ s. s.last) t.self-is ∙ sym (added_some w (taken_of events tally) t.if-tally-gt0.true)
-      | else-tally-gt0 t ↦ ap (λ s. s.last) t.self-is ∙ sym (added_none w (taken_of events tally) t.if-tally-gt0.false)
+    let digest = g.U.UidMaker.digest in
+    let records = c.args.records.now in
+    let same : c.as_slice.result.now ≡ records = c.as_slice.ensures.same in
+    let t : Taken = taken digest w.events w.last records in
+    let report = c.in-Ok.report in
+    let done = c.in-Ok.ensures.ok w holds.lawful (sym holds.rules.dict) (sym holds.rules.last) (subst (λ (rs : Records). AreWellFormed rs) (sym same) formed) holds.tables in
+    let is : report ≡ report_of w.last t = done.report ∙ ap (λ rs. report_of w.last (taken digest w.events w.last rs)) same in
+    let at : c.if-report-gt0.self.last ≡ last_after w.last t = last_taken w t report d.last c.if-report-gt0.self.last is (sym holds.rules.last)
+    (λ some. elim c.if-report-gt0.branch [
+      | then-report-gt0 x ↦ ap (λ s. s.last) x.self-is
+      | else-report-gt0 x ↦ absurd (omega (arith, some, x.if-report-gt0.false))
+    ])
+    (λ none. elim c.if-report-gt0.branch [
+      | then-report-gt0 x ↦ absurd (omega (arith, none, x.if-report-gt0.true))
+      | else-report-gt0 x ↦ ap (λ s. s.last) x.self-is
+    ]) in
+    let dict : c.if-report-gt0.self.dict ≡ d.dict = elim c.if-report-gt0.branch [
+      | then-report-gt0 x ↦ ap (λ s. s.dict) x.self-is
+      | else-report-gt0 x ↦ ap (λ s. s.dict) x.self-is
     ] in
-    let kept : state_of c.if-tally-gt0.self ≡ with_world w (world_of_parts events.entries w.world.dict w.world.grants c.if-tally-gt0.self.last) = elim c.if-tally-gt0.branch [
-      | then-tally-gt0 t ↦ ap state_of t.self-is ∙ ap (λ (n : ℕ). with_world w (world_of_parts events.entries w.world.dict w.world.grants n)) (sym (ap (λ s. s.last) t.self-is))
-      | else-tally-gt0 t ↦ ap state_of t.self-is ∙ ap (λ (n : ℕ). with_world w (world_of_parts events.entries w.world.dict w.world.grants n)) (sym (ap (λ s. s.last) t.self-is))
+    let grants : c.if-report-gt0.self.grants ≡ d.grants = elim c.if-report-gt0.branch [
+      | then-report-gt0 x ↦ ap (λ s. s.grants) x.self-is
+      | else-report-gt0 x ↦ ap (λ s. s.grants) x.self-is
     ] in
-    let base = ingested_taken w all events tally c.if-tally-gt0.self.last taken.0 taken.1 at in
-    subst (λ (rs : Records). Replies g.U.UidMaker.digest w (Ok (Ingest rs)) (Ingested c.report_of.result) (state_of c.if-tally-gt0.self)) c.as_slice-all.ensures.same
-    (inl (ap Ingested c.report_of.ensures ∙ base.0, kept ∙ base.1))
+    let callers : c.if-report-gt0.self.callers ≡ d.callers = elim c.if-report-gt0.branch [
+      | then-report-gt0 x ↦ ap (λ s. s.callers) x.self-is
+      | else-report-gt0 x ↦ ap (λ s. s.callers) x.self-is
+    ] in
+    let out = ingested_from (state_of w d) t (unspent_new w report t d.last is (sym holds.rules.last) c.in-Ok.ensures.unspent) in
+    record {
+      next = after_taken w t;
+      holds = record {
+        tables = done.tables ∙ ap (λ rs. Some (tables (after_taken w (taken digest w.events w.last rs)))) same;
+        lawful = subst (λ (rs : Records). IsWorld (after_taken w (taken digest w.events w.last rs))) same done.world;
+        rules = record { dict = dict ∙ holds.rules.dict; grants = ap grants_of grants ∙ holds.rules.grants; last = at };
+      };
+      later = later_taken digest w records;
+      is = inl (ap Ingested is ∙ out.0, ap (λ m. state_at (after_taken w t) m) callers ∙ out.1);
+    }
 
-pub returns-in-Ok-None : goal.returns-in-Ok-None
-unfolding step state_of
-returns-in-Ok-None g c =
+pub returns-in-Err-Spent-clause-does : goal.returns-in-Err-Spent-clause-does
+returns-in-Err-Spent-clause-does g c = λ w holds formed.
     let d = c.args.self.now in
-    let w : State = state_of d in
-    let all : Taken = with_records g.U.UidMaker.digest (d.last + 1) (none_taken d.events.entries) c.as_slice-all.result.now in
-    let taken = subst (λ (o : Option Tally). BatchTaken d.last all d.events c.take_batch.new.events o) c.in-Ok-None.field-0-is c.in-Ok-None.ensures.taken in
-    let base = ingested_spent w all taken.0 taken.1 in
-    subst (λ (rs : Records). Replies g.U.UidMaker.digest w (Ok (Ingest rs)) Spent (with_world w (world_of_parts c.take_batch.new.events.entries w.world.dict w.world.grants w.world.last))) c.as_slice-all.ensures.same
-    (inl (base.0, ap (λ (es : List Event). with_world w (world_of_parts es w.world.dict w.world.grants w.world.last)) taken.2 ∙ base.1))
+    let digest = g.U.UidMaker.digest in
+    let records = c.args.records.now in
+    let same : c.as_slice.result.now ≡ records = c.as_slice.ensures.same in
+    let t : Taken = taken digest w.events w.last records in
+    let new : t.new ≢ 0 = subst (λ (rs : Records). (taken digest w.events w.last rs).new ≢ 0) same
+    (c.in-Err-Spent.ensures.spent_new w holds.lawful (sym holds.rules.dict) (sym holds.rules.last) (subst (λ (rs : Records). AreWellFormed rs) (sym same) formed) holds.tables (ap Err c.in-Err-Spent.field-0-is)) in
+    record {
+      next = w;
+      holds = holds_kept (g.K.Keeper.told c.args.keeper.now) _ d _ w c.in-Err-Spent.ensures.err (record { dict = refl; grants = refl; last = refl }) holds;
+      later = later_same w w refl refl;
+      is = inl (ingested_spent (state_of w d) t (omega (arith, new)) (sym holds.rules.last ∙ c.in-Err-Spent.ensures.spent (ap Err c.in-Err-Spent.field-0-is)));
+    }
 
-pub returns-in-Err : goal.returns-in-Err
-unfolding step state_of
-returns-in-Err g c =
+pub returns-in-Err-StoreFault-clause-does : goal.returns-in-Err-StoreFault-clause-does
+returns-in-Err-StoreFault-clause-does g c = λ w holds formed.
     let d = c.args.self.now in
-    let w : State = state_of d in
-    inr (refl, ap (λ (es : List Event). with_world w (world_of_parts es w.world.dict w.world.grants w.world.last)) c.in-Err.ensures.err, refl)
+    record {
+      next = w;
+      holds = holds_kept (g.K.Keeper.told c.args.keeper.now) _ d _ w c.in-Err-StoreFault.ensures.err (record { dict = refl; grants = refl; last = refl }) holds;
+      later = later_same w w refl refl;
+      is = inr (inr (refl, refl, ingest_accepted (state_of w d) (taken g.U.UidMaker.digest w.events w.last c.args.records.now)));
+    }
+
+pub returns-in-Err-OutOfMemory-clause-does : goal.returns-in-Err-OutOfMemory-clause-does
+returns-in-Err-OutOfMemory-clause-does g c = λ w holds formed.
+    record {
+      next = w;
+      holds = holds_kept (g.K.Keeper.told c.args.keeper.now) _ c.args.self.now _ w c.in-Err-OutOfMemory.ensures.err (record { dict = refl; grants = refl; last = refl }) holds;
+      later = later_same w w refl refl;
+      is = inr (inl (refl, refl, refl));
+    }
+
+pub returns-after-report-gt0-clause-accounts : goal.returns-after-report-gt0-clause-accounts
+returns-after-report-gt0-clause-accounts g c =
+    ap kept_of (elim c.if-report-gt0.branch [
+      | then-report-gt0 x ↦ ap (λ s. s.callers) x.self-is
+      | else-report-gt0 x ↦ ap (λ s. s.callers) x.self-is
+    ])

@@ -1,11 +1,12 @@
-use Rattle.std.proofs.Common.{◌≡◌, ◌⊎◌, ◌≤◌, ◌<◌, ◌^◌, [], ◌∷◌, ◌++◌, List, ℕ, sym, ◌∙◌, ap, subst, arith}
+use Rattle.std.proofs.Common.{◌≡◌, ◌⊎◌, ◌≤◌, [], ◌∷◌, ◌++◌, List, ℕ, sym, ◌∙◌, ap, subst, arith}
 use Rattle.std.specs.Prelude.{is_some}
 use Rattle.dw_outside.specs.declared.cell.Put.{Put}
-use Rattle.dw_outside.specs.Tables.{Tables, applied}
+use Rattle.dw_outside.specs.Tables.{Tables, HasFourTables, applied}
 use Rattle.dw_outside.specs.Disks.{Since}
+use Rattle.dw_outside.proofs.FourTables.{applied_fits}
 use Rattle.dw_journal.specs.Frames.{frame_of, frames_of, Holds, IsBatch}
 use Rattle.dw_journal.specs.Journal.{Journal, IsJournal, Could, LeavesOnly, frame_in}
-use Rattle.dw_journal.proofs.Told.{told_as_before, told_mapped, all_each}
+use Rattle.dw_journal.proofs.Told.{told_as_before, told_mapped, all_each, now_told}
 use Rattle.dw_journal.proofs.Keeping.{journal_added, journal_refused, journal_moments}
 use Rattle.dw_journal.proofs.keeper.JournalKeeperKeeper.apply.Goals as goal
 
@@ -68,3 +69,10 @@ returns-clause-moments g c batches doubt now =
     let frame : c.deref.result.now ≡ frame_of puts ++ 0 ∷ [] = c.deref.ensures.value ∙ c.in_ok-frame.ensures.bytes in
     subst (λ (j : Journal _). Since (LeavesOnly (λ (l : List ℕ). Could batches doubt l ⊎ Holds (batches ++ puts ∷ []) l)) (g.D.Disk.model j.disk) new) c.self.view_is
     (journal_moments (g.D.Disk.model c.self.inside.disk) _ c.args.self.now batches doubt puts this was new (c.append.ensures.moments (frames_of batches) (frame_in doubt) (frame_of puts) frame was.stands))
+
+pub invariant_of-self-in-Ok : goal.invariant_of-self-in-Ok
+invariant_of-self-in-Ok g c =
+    let P : Tables → Type 0 = HasFourTables in
+    (record { small = c.append.ensures.small; there = c.append.ensures.there },
+    now_told (P c.self.inside.store) (P c.apply_undoable.new.self) (g.D.Disk.model c.self.inside.disk) (g.D.Disk.model c.append.new.disk) c.append.ensures.told
+    (λ four. subst P (sym c.in_ok-undo.ensures.ok) (applied_fits c.args.puts.now c.self.inside.store four c.requires)) c.self.invariant.1)

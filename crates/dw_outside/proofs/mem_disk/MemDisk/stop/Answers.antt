@@ -1,4 +1,4 @@
-use Rattle.std.proofs.Common.{rules, List, ℕ, arith}
+use Rattle.std.proofs.Common.{arith}
 use Rattle.std.proofs.lemmas.Grind.{common_steps}
 use Rattle.std.specs.Prelude.{IfOk}
 use Rattle.dw_outside.specs.DiskStands.{memory_stands}

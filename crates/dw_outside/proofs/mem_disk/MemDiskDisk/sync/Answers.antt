@@ -1,4 +1,4 @@
-use Rattle.std.proofs.Common.{[], ◌<◌, ap, ◌∙◌, arith}
+use Rattle.std.proofs.Common.{◌<◌, ap, ◌∙◌, arith}
 use Rattle.std.specs.Prelude.{Some}
 use Rattle.std.proofs.lemmas.Grind.{common_steps}
 use Rattle.dw_outside.specs.Disks.{moved, synced}

@@ -1,6 +1,5 @@
-use Rattle.std.proofs.Common.{rules, ◌≡◌, ◌⊎◌, [], ◌∷◌, ◌++◌, length, List, ℕ, ◌<◌, ◌≤◌, ◌+◌, ap, sym, subst, refl, ◌∙◌, arith, inl, inr}
+use Rattle.std.proofs.Common.{rules, ◌⊎◌, [], length, List, ℕ, ◌<◌, ◌≤◌, ◌+◌, ap, subst, refl, ◌∙◌, arith, inl, inr}
 use Rattle.std.specs.Prelude.{Some}
-use Rattle.std.proofs.lemmas.Grind.{common_steps}
 use Rattle.dw_outside.specs.Memory.{FailsNext}
 use Rattle.dw_outside.specs.Disks.{moved, wrote, wrote_to}
 use Rattle.dw_outside.specs.MemoryDisks.{MemoryDisk, memory_model, FailsAnyway}
