@@ -72,7 +72,8 @@ returns-clause-moments g c batches doubt now =
 
 pub invariant_of-self-in-Ok : goal.invariant_of-self-in-Ok
 invariant_of-self-in-Ok g c =
-    let P : Tables → Type 0 = HasFourTables in
-    (record { small = c.append.ensures.small; there = c.append.ensures.there },
-    now_told (P c.self.inside.store) (P c.apply_undoable.new.self) (g.D.Disk.model c.self.inside.disk) (g.D.Disk.model c.append.new.disk) c.append.ensures.told
-    (λ four. subst P (sym c.in_ok-undo.ensures.ok) (applied_fits c.args.puts.now c.self.inside.store four c.requires)) c.self.invariant.1)
+    let P : Tables → Type 0 = HasFourTables in (
+      record { small = c.append.ensures.small; there = c.append.ensures.there },
+      now_told (P c.self.inside.store) (P c.apply_undoable.new.self) (g.D.Disk.model c.self.inside.disk) (g.D.Disk.model c.append.new.disk) c.append.ensures.told
+          (λ four. subst P (sym c.in_ok-undo.ensures.ok) (applied_fits c.args.puts.now c.self.inside.store four c.requires)) c.self.invariant.1,
+    )
