@@ -1,0 +1,90 @@
+use dw_base::{Listed, Text};
+use std::marker::Model;
+
+/// How records are written.
+#[derive(Clone, Copy, Debug, PartialEq, Eq)]
+pub enum Form {
+    /// One record of JSON a line.
+    Json,
+    /// A text of CSV, of which the first row is the header.
+    Csv,
+}
+
+/// Where the tables are.
+#[derive(Debug, Drop, PartialEq, Eq)]
+pub enum Place {
+    /// In memory, and gone with the program.
+    Memory,
+    /// In a database, at the path that `--store` gives.
+    Store(Text),
+    /// In a journal, at the path that `--journal` gives.
+    Journal(Text),
+}
+
+/// How many threads search side by side: 1 to 16.
+#[derive(Clone, Copy, Debug, PartialEq, Eq)]
+pub struct Workers {
+    count: u32,
+}
+
+impl Model for Workers {
+    ghost use Rattle.std.specs.Prelude.{ℕ, ◌≤◌};
+
+    ghost Value = { ℕ };
+
+    ghost view = { λ w. w.count };
+
+    ghost invariant = { λ w. (1 ≤ w.count) × (w.count ≤ 16) };
+
+    ghost inverse = { λ n. record { count = n } };
+}
+
+/// How many documents each open shard may read in the first wave, in the second and so on: 1 to 16 numbers, each 1 to
+/// 1,000,000.
+#[derive(Debug, Drop, PartialEq, Eq)]
+pub struct Batches {
+    sizes: Listed<u32>,
+}
+
+impl Model for Batches {
+    ghost use Rattle.std.specs.Prelude.{List, ℕ, IsTrue};
+    ghost use Rattle.dw_words.specs.Sizes.{are_sizes};
+
+    ghost Value = { List ℕ };
+
+    ghost view = { λ b. b.sizes };
+
+    ghost invariant = { λ b. IsTrue (are_sizes b.sizes) };
+
+    ghost inverse = { λ l. record { sizes = l } };
+}
+
+/// What the program does.
+#[derive(Debug, Drop, PartialEq, Eq)]
+pub enum Command {
+    /// Answers request lines.
+    Exec {
+        workers: Workers,
+        batches: Batches,
+        place: Place,
+    },
+    /// Takes records in, in groups.
+    Ingest { form: Form, place: Place },
+    /// Tells whether the tables are sound.
+    Audit { place: Place },
+    /// Makes events, as many as are asked for and from 1 to 100,000, by a generator that begins with the seed, and
+    /// queries them.
+    Demo {
+        seed: u32,
+        events: u32,
+        workers: Workers,
+    },
+    /// Serves so many connections, 1 to 1,000,000, at a port of 127.0.0.1, which is not 0.
+    Serve {
+        port: u16,
+        connections: u32,
+        workers: Workers,
+        batches: Batches,
+        place: Place,
+    },
+}
