@@ -56,3 +56,19 @@ options_for takes words = option_and_then (checked takes) (options words)
 -- the value that words give for a name
 abbrev pub value_in : Text → List Text → Option Text
 value_in name words = option_and_then (value_of name) (options words)
+
+-- ---- the same, from the front
+
+abbrev pub given_of : Text → Text → List Text → Option (Text × (Text × List Text))
+given_of name v rest = if is_value v then Some (name, (v, rest)) else None
+
+abbrev pub first_at : Option (Text × Option Text) → List Text → Option (Text × (Text × List Text))
+first_at None ws = None
+first_at (Some (name, Some v)) ws = given_of name v ws
+first_at (Some (name, None)) [] = None
+first_at (Some (name, None)) (v ∷ ws) = given_of name v ws
+
+-- the name and the value of the first option of words, and the words after it
+abbrev pub first_option : List Text → Option (Text × (Text × List Text))
+first_option [] = None
+first_option (w ∷ ws) = first_at (long_of w) ws

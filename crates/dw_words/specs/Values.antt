@@ -38,10 +38,11 @@ abbrev pub numbers : Text → List ℕ
 numbers text = map (digits_value 10) (parts text)
 
 -- how many documents a shard may read wave by wave, `1000` where nothing is given
+abbrev pub batches_in : Option Text → Text
+batches_in value = unwrap_or value (codes "1000")
+
 abbrev pub batches : Option Text → Option (List ℕ)
-batches value =
-    let text = unwrap_or value (codes "1000") in
-    if are_batches text then Some (numbers text) else None
+batches value = if are_batches (batches_in value) then Some (numbers (batches_in value)) else None
 
 abbrev pub form_named : Text → Option Form
 form_named name = if bytes_eq name (codes "json") then Some Json else if bytes_eq name (codes "csv") then Some Csv else None

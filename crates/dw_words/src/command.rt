@@ -1,3 +1,5 @@
+ghost use Rattle.std.specs.Prelude.{◌≡◌, ◌≤◌, IsTrue};
+
 use dw_base::{Listed, Text};
 use std::marker::Model;
 
@@ -39,6 +41,24 @@ impl Model for Workers {
     ghost inverse = { λ n. record { count = n } };
 }
 
+impl Workers {
+    pub(crate) fn of(count: u32) -> Workers
+        requires some { 1 ≤ count }
+        requires at_most { count ≤ 16 }
+        ensures { result ≡ count }
+    {
+        Workers { count }
+    }
+
+    pub fn count(self) -> u32
+        ensures is { result ≡ self }
+        ensures some { 1 ≤ result }
+        ensures at_most { result ≤ 16 }
+    {
+        self.count
+    }
+}
+
 /// How many documents each open shard may read in the first wave, in the second and so on: 1 to 16 numbers, each 1 to
 /// 1,000,000.
 #[derive(Debug, Drop, PartialEq, Eq)]
@@ -57,6 +77,32 @@ impl Model for Batches {
     ghost invariant = { λ b. IsTrue (are_sizes b.sizes) };
 
     ghost inverse = { λ l. record { sizes = l } };
+}
+
+impl Batches {
+    ghost use Rattle.dw_words.specs.Sizes.{are_sizes};
+
+    pub(crate) fn of(sizes: Listed<u32>) -> Batches
+        requires { IsTrue (are_sizes sizes) }
+        ensures { result ≡ sizes }
+    {
+        Batches { sizes }
+    }
+
+    pub fn as_slice(&self) -> &[u32]
+        ensures is { result.now ≡ self.now }
+        ensures sized { IsTrue (are_sizes self.now) }
+    {
+        self.sizes.as_slice()
+    }
+
+    /// Takes no memory.
+    pub fn into_sizes(self) -> Listed<u32>
+        ensures is { result ≡ self }
+        ensures sized { IsTrue (are_sizes self) }
+    {
+        self.sizes
+    }
 }
 
 /// What the program does.
