@@ -30,12 +30,16 @@ parts text = slice_split (λ b. b == 44) text
 abbrev pub is_batch : Text → Bool
 is_batch part = is_some (number 1 1000000 part)
 
+-- the number that a part spells, or 0
+abbrev pub size_of : Text → ℕ
+size_of part = unwrap_or (number 1 1000000 part) 0
+
 -- 1 to 16 numbers of 1 to 1000000, parted by commas
 abbrev pub are_batches : Text → Bool
 are_batches text = nat_le (length (parts text)) 16 && list_all is_batch (parts text)
 
 abbrev pub numbers : Text → List ℕ
-numbers text = map (digits_value 10) (parts text)
+numbers text = map size_of (parts text)
 
 -- how many documents a shard may read wave by wave, `1000` where nothing is given
 abbrev pub batches_in : Option Text → Text

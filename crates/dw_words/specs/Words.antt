@@ -7,7 +7,7 @@ use Rattle.dw_words.specs.declared.command.Place.{Place}
 use Rattle.dw_words.specs.declared.command.Place.TheVariants.{Memory, Store, Journal}
 use Rattle.dw_words.specs.declared.command.Command.{Command}
 use Rattle.dw_words.specs.declared.command.Command.TheVariants.{Exec, Ingest, Audit, Demo, Serve}
-use Rattle.dw_words.specs.Options.{Options, Text, options_for, value_of}
+use Rattle.dw_words.specs.Options.{Options, Text, options_for, value_in, value_of}
 use Rattle.dw_words.specs.Values.{workers, batches, form, place, given_number}
 
 -- the command that a word names
@@ -77,6 +77,40 @@ command_after words kind = option_and_then (command_of kind) (options_for (takes
 abbrev pub command : List Text → Option Command
 command [] = None
 command (word ∷ words) = option_and_then (command_after words) (kind_named word)
+
+-- ---- each command, by what words give that are options
+
+abbrev pub place_given : List Text → Option Place
+place_given ws = place (value_in (codes "store") ws) (value_in (codes "journal") ws)
+
+abbrev pub workers_given : List Text → Option ℕ
+workers_given ws = workers (value_in (codes "workers") ws)
+
+abbrev pub batches_given : List Text → Option (List ℕ)
+batches_given ws = batches (value_in (codes "batches") ws)
+
+abbrev pub exec_in : List Text → Option Command
+exec_in ws = exec_of (value_in (codes "workers") ws) (value_in (codes "batches") ws) (place_given ws)
+
+abbrev pub ingest_in : List Text → Option Command
+ingest_in ws = ingest_of (value_in (codes "form") ws) (place_given ws)
+
+abbrev pub audit_in : List Text → Option Command
+audit_in ws = audit_of (place_given ws)
+
+abbrev pub demo_in : List Text → Option Command
+demo_in ws = demo_of (value_in (codes "seed") ws) (value_in (codes "events") ws) (value_in (codes "workers") ws)
+
+abbrev pub serve_in : List Text → Option Command
+serve_in ws =
+    serve_of (value_in (codes "port") ws) (value_in (codes "connections") ws) (value_in (codes "workers") ws) (value_in (codes "batches") ws) (place_given ws)
+
+abbrev pub command_in : List Text → Kind → Option Command
+command_in ws kind.Exec = exec_in ws
+command_in ws kind.Ingest = ingest_in ws
+command_in ws kind.Audit = audit_in ws
+command_in ws kind.Demo = demo_in ws
+command_in ws kind.Serve = serve_in ws
 
 -- ---- where a command's tables are
 

@@ -2,6 +2,7 @@
 #![tactic(auto)]
 
 mod command;
+mod given;
 mod kind;
 mod options;
 mod values;

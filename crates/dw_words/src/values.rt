@@ -1,6 +1,6 @@
 ghost use Rattle.std.specs.Prelude.{◌≡◌, ◌≤◌, IfOk, IfSome, IsTrue, is_some, length, nat_le, option_map};
 ghost use Rattle.std.specs.List.{list_all};
-ghost use Rattle.dw_words.specs.Values.{are_batches as read_as_batches, batches, batches_in, form, form_named, given_number as number_given, is_batch as reads_as_batch, number, numbers, parts, place, workers};
+ghost use Rattle.dw_words.specs.Values.{are_batches as read_as_batches, batches, batches_in, form, form_named, given_number as number_given, is_batch as reads_as_batch, number, numbers, parts, place, size_of, workers};
 
 use crate::command::{Batches, Form, Place, Workers};
 use dw_base::{Listed, OutOfMemory, Text, read_numeral};
@@ -123,18 +123,19 @@ pub fn are_batches(value: Option<&str>) -> bool
     are_numbers(batches_text(value))
 }
 
+/// The number that a part spells, or 0.
+fn batch_size(part: &str) -> u32
+    ensures { result ≡ size_of part.now }
+{
+    read_batch(part).unwrap_or(0)
+}
+
 /// The numbers of a text of them.
 fn read_numbers(alloc: Global, text: &str) -> Result<Vec<u32>, OutOfMemory>
     requires { IsTrue (read_as_batches text.now) }
     ensures { IfOk result (λ v. v.items ≡ numbers text.now) }
 {
-    let mut sizes = Vec::new(alloc);
-    for part in text.split(',') {
-        if let Some(size) = read_batch(part) {
-            sizes.push(size)?;
-        }
-    }
-    Ok(sizes)
+    text.split(',').map(|part| batch_size(part)).collect(alloc)
 }
 
 /// How many documents a shard may read wave by wave, 1,000 where nothing is given.
