@@ -134,3 +134,44 @@ pub enum Command {
         place: Place,
     },
 }
+
+impl Place {
+    ghost use Rattle.dw_words.specs.Words.{journal_at, store_at};
+
+    /// The path of the database. Takes no memory.
+    pub fn into_store(self) -> Option<Text>
+        ensures { result ≡ store_at self }
+    {
+        match self {
+            Place::Store(path) => Some(path),
+            Place::Memory | Place::Journal(_) => None,
+        }
+    }
+
+    /// The path of the journal. Takes no memory.
+    pub fn into_journal(self) -> Option<Text>
+        ensures { result ≡ journal_at self }
+    {
+        match self {
+            Place::Journal(path) => Some(path),
+            Place::Memory | Place::Store(_) => None,
+        }
+    }
+}
+
+impl Command {
+    ghost use Rattle.dw_words.specs.Words.{place_in};
+
+    /// Where the command's tables are. Takes no memory.
+    pub fn into_place(self) -> Place
+        ensures { result ≡ place_in self }
+    {
+        match self {
+            Command::Exec { place, .. } => place,
+            Command::Ingest { place, .. } => place,
+            Command::Audit { place } => place,
+            Command::Demo { .. } => Place::Memory,
+            Command::Serve { place, .. } => place,
+        }
+    }
+}

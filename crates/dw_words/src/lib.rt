@@ -5,6 +5,8 @@ mod command;
 mod given;
 mod kind;
 mod options;
+mod reading;
 mod values;
 
 pub use command::{Batches, Command, Form, Place, Workers};
+pub use reading::{are_command, journal_of, read_command, store_of};
