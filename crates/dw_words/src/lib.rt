@@ -10,3 +10,6 @@ mod values;
 
 pub use command::{Batches, Command, Form, Place, Workers};
 pub use reading::{are_command, journal_of, read_command, store_of};
+
+#[cfg(test)]
+mod tests;
