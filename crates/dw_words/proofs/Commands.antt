@@ -3,7 +3,6 @@ use Rattle.std.proofs.Common.{◌≡◌, ◌∙◌, ◌&&◌, Bool, true, false,
 use Rattle.std.specs.List.{list_all}
 use Rattle.dw_words.specs.declared.kind.Kind.{Kind}
 use Rattle.dw_words.specs.declared.kind.Kind.TheVariants as kind
-use Rattle.dw_words.specs.declared.command.Command.{Command}
 use Rattle.dw_words.specs.Options.{Options, Text, options, checked, are_once, options_for}
 use Rattle.dw_words.specs.Words.{takes, command_of, command_in, command_after}
 

@@ -1,14 +1,13 @@
 -- What a text of numbers is known to give.
-use Rattle.std.proofs.Common.{◌≡◌, ◌∙◌, ◌==◌, ◌&&◌, ◌≤◌, ◌+◌, count_by, ℕ, Bool, true, false, cond, nat_le, List, [], ◌∷◌, length, map, Option, Some, None, is_some, unwrap_or, option_and_then, IsTrue, refl, sym, ap, true≢false, arith}
+use Rattle.std.proofs.Common.{◌≡◌, ◌∙◌, ◌==◌, ◌&&◌, ◌+◌, count_by, ℕ, Bool, true, false, cond, nat_le, List, [], ◌∷◌, length, map, Option, Some, None, is_some, unwrap_or, option_and_then, refl, sym, ap, true≢false, arith}
 use Rattle.std.proofs.lemmas.Bool.{le-leb}
 use Rattle.std.proofs.lemmas.List.{length-map}
 use Rattle.std.proofs.lemmas.List.Splits.{length-slice_split}
-use Rattle.std.specs.List.{list_all, slice_split}
+use Rattle.std.specs.List.{list_all}
 use Rattle.std.specs.Str.Parse.{digits_value}
 use Rattle.std.specs.Char.{is_ascii_digit}
-use Rattle.dw_base.specs.Numerals.{numeral_up_to}
 use Rattle.dw_words.specs.Options.{Text}
-use Rattle.dw_words.specs.Sizes.{is_size, are_sizes}
+use Rattle.dw_words.specs.Sizes.{is_size, are_sizes, are_some}
 use Rattle.dw_words.specs.Values.{from_least, number, parts, size_of, is_batch, are_batches, numbers}
 
 -- a number by what decides it
@@ -50,3 +49,14 @@ numbers_are_sizes text e =
     let parted = both (nat_le (length (parts text)) 16) (list_all is_batch (parts text)) e in
     let count : length (numbers text) ≡ length (parts text) = length-map (parts text) size_of in
     rw (count, some_parts text, parted.0) (all_sizes (parts text) parted.1)
+
+each_some : (sizes : List ℕ) → list_all is_size sizes ≡ true → list_all (λ n. nat_le 1 n) sizes ≡ true
+each_some [] e = refl
+each_some (n ∷ sizes) e =
+    let parted = both (is_size n) (list_all is_size sizes) e in
+    rw ((both (nat_le 1 n) (nat_le n 1000000) parted.0).0) (each_some sizes parted.1)
+
+pub sizes_are_some : (sizes : List ℕ) → are_sizes sizes ≡ true → are_some sizes ≡ true
+sizes_are_some sizes e =
+    let parted = both (nat_le 1 (length sizes)) (nat_le (length sizes) 16 && list_all is_size sizes) e in
+    rw (parted.0) (each_some sizes ((both (nat_le (length sizes) 16) (list_all is_size sizes) parted.1).1))

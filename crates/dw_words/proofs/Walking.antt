@@ -1,10 +1,10 @@
 -- What the first option of words says of all.
-use Rattle.std.proofs.Common.{◌≡◌, ◌∙◌, ◌<◌, ◌≤◌, ◌&&◌, ◌==◌, ℕ, Bool, true, false, not, cond, List, [], ◌∷◌, length, Option, Some, None, is_some, option_map, option_and_then, IsSome, Bor, refl, sym, ap, subst, arith, add-one, true≢false}
+use Rattle.std.proofs.Common.{◌≡◌, ◌∙◌, ◌<◌, ◌&&◌, ◌==◌, ℕ, Bool, true, false, not, cond, List, [], ◌∷◌, length, Option, Some, None, is_some, option_map, option_and_then, IsSome, Bor, refl, sym, ap, subst, arith, true≢false}
 use Rattle.std.proofs.Math.Dec.{eqb-suc-zero}
 use Rattle.std.specs.List.{list_all}
 use Rattle.std.specs.Str.{bytes_eq}
 use Rattle.clap.specs.Lexer.{long_of}
-use Rattle.dw_words.specs.Options.{Options, Text, is_value, with_option, at_name, options_from, options, value_of, are_once, checked, options_for, value_in, given_of, first_at, first_option}
+use Rattle.dw_words.specs.Options.{Options, Text, is_value, at_name, options_from, options, value_of, are_once, checked, options_for, value_in, first_at, first_option}
 
 abbrev First : Type 0
 First = Text × (Text × List Text)

@@ -1,3 +1,4 @@
+pub mod Laws
 pub mod Options
 pub mod Sizes
 pub mod Values

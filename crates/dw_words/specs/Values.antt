@@ -1,9 +1,8 @@
 -- What values of options stand for.
-use Rattle.std.specs.Prelude.{ℕ, ◌==◌, ◌&&◌, List, Bool, nat_le, length, Option, Some, None, is_some, option_map, option_and_then, codes, unwrap_or, map, if◌then◌else◌}
+use Rattle.std.specs.Prelude.{ℕ, ◌==◌, ◌&&◌, List, Bool, nat_le, length, Option, Some, None, is_some, option_and_then, codes, unwrap_or, map, if◌then◌else◌}
 use Rattle.std.specs.List.{list_all, slice_split}
 use Rattle.std.specs.Option.{option_map_or}
 use Rattle.std.specs.Str.{bytes_eq}
-use Rattle.std.specs.Str.Parse.{digits_value}
 use Rattle.dw_base.specs.Numerals.{numeral_up_to}
 use Rattle.dw_words.specs.declared.command.Form.{Form}
 use Rattle.dw_words.specs.declared.command.Form.TheVariants.{Json, Csv}

@@ -1,5 +1,5 @@
 -- The command that words are.
-use Rattle.std.specs.Prelude.{ℕ, ◌||◌, List, [], ◌∷◌, Bool, Option, Some, None, option_map, option_and_then, codes, if◌then◌else◌}
+use Rattle.std.specs.Prelude.{ℕ, ◌||◌, ◌&&◌, nat_le, true, List, [], ◌∷◌, Bool, Option, Some, None, option_map, option_and_then, codes, if◌then◌else◌}
 use Rattle.std.specs.Str.{bytes_eq}
 use Rattle.dw_words.specs.declared.kind.Kind.{Kind}
 use Rattle.dw_words.specs.declared.kind.Kind.TheVariants as kind
@@ -111,6 +111,12 @@ command_in ws kind.Ingest = ingest_in ws
 command_in ws kind.Audit = audit_in ws
 command_in ws kind.Demo = demo_in ws
 command_in ws kind.Serve = serve_in ws
+
+-- the port and how many events and connections are within their limits
+abbrev pub is_within : Command → Bool
+is_within (Demo seed events workers) = nat_le 1 events && nat_le events 100000
+is_within (Serve port connections workers batches place) = nat_le 1 port && (nat_le port 65535 && (nat_le 1 connections && nat_le connections 1000000))
+is_within _ = true
 
 -- ---- where a command's tables are
 

@@ -80,7 +80,7 @@ impl Model for Batches {
 }
 
 impl Batches {
-    ghost use Rattle.dw_words.specs.Sizes.{are_sizes};
+    ghost use Rattle.dw_words.specs.Sizes.{are_sizes, are_some};
 
     pub(crate) fn of(sizes: Listed<u32>) -> Batches
         requires { IsTrue (are_sizes sizes) }
@@ -92,6 +92,7 @@ impl Batches {
     pub fn as_slice(&self) -> &[u32]
         ensures is { result.now ≡ self.now }
         ensures sized { IsTrue (are_sizes self.now) }
+        ensures some { IsTrue (are_some self.now) }
     {
         self.sizes.as_slice()
     }
@@ -100,12 +101,13 @@ impl Batches {
     pub fn into_sizes(self) -> Listed<u32>
         ensures is { result ≡ self }
         ensures sized { IsTrue (are_sizes self) }
+        ensures some { IsTrue (are_some self) }
     {
         self.sizes
     }
 }
 
-/// What the program does.
+/// What the program does. Words that begin with `migrate` are no command yet.
 #[derive(Debug, Drop, PartialEq, Eq)]
 pub enum Command {
     /// Answers request lines.
@@ -115,9 +117,14 @@ pub enum Command {
         place: Place,
     },
     /// Takes records in, in groups.
-    Ingest { form: Form, place: Place },
+    Ingest {
+        form: Form,
+        place: Place,
+    },
     /// Tells whether the tables are sound.
-    Audit { place: Place },
+    Audit {
+        place: Place,
+    },
     /// Makes events, as many as are asked for and from 1 to 100,000, by a generator that begins with the seed, and
     /// queries them.
     Demo {

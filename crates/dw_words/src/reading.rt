@@ -1,6 +1,6 @@
-ghost use Rattle.std.specs.Prelude.{◌≡◌, IfOk, IsSome, is_some};
+ghost use Rattle.std.specs.Prelude.{◌≡◌, IfOk, IfSome, IsSome, IsTrue, is_some};
 ghost use Rattle.dw_words.specs.Options.{options};
-ghost use Rattle.dw_words.specs.Words.{audit_in, command, command_after, command_in, demo_in, exec_in, ingest_in, journal_named, serve_in, store_named};
+ghost use Rattle.dw_words.specs.Words.{audit_in, command, command_after, command_in, demo_in, exec_in, ingest_in, is_within, journal_named, serve_in, store_named};
 
 use crate::command::Command;
 use crate::given;
@@ -179,7 +179,8 @@ fn is_command(kind: Kind, words: &[Text]) -> bool
 
 /// The command by its name and the words after it.
 fn read_after(alloc: Global, kind: Kind, words: &[Text]) -> Result<Option<Command>, OutOfMemory>
-    ensures { IfOk result (λ c. c ≡ command_after words.now kind) }
+    ensures is { IfOk result (λ c. c ≡ command_after words.now kind) }
+    ensures within { IfOk result (λ o. IfSome o (λ c. IsTrue (is_within c))) }
 {
     if !are_options(kind, words) {
         return Ok(None);
@@ -202,7 +203,8 @@ pub fn are_command(words: &[Text]) -> bool
 
 /// The command that the words after the program's name are, or None where they are none.
 pub fn read_command(alloc: Global, words: &[Text]) -> Result<Option<Command>, OutOfMemory>
-    ensures { IfOk result (λ c. c ≡ command words.now) }
+    ensures is { IfOk result (λ c. c ≡ command words.now) }
+    ensures within { IfOk result (λ o. IfSome o (λ c. IsTrue (is_within c))) }
 {
     let Some((word, words)) = words.split_first() else {
         return Ok(None);

@@ -63,7 +63,11 @@ fn show(alloc: Global, command: &Command) -> Result<String, AllocError> {
             place,
         } => {
             let place = show_place(alloc, place)?;
-            format!(in alloc; "serve {port} {connections} {} {:?} {place}", workers.count(), batches.as_slice())
+            format!(in alloc;
+                "serve {port} {connections} {} {:?} {place}",
+                workers.count(),
+                batches.as_slice()
+            )
         }
     }
 }
@@ -81,7 +85,10 @@ fn words_are_read(rt: HostRuntime) -> Result<(), Fail> {
     let cases = [
         ("exec", "exec 4 [1000] memory"),
         ("exec --workers=016 --batches 1,2", "exec 16 [1, 2] memory"),
-        ("exec --batches=0001000000 --workers 1", "exec 1 [1000000] memory"),
+        (
+            "exec --batches=0001000000 --workers 1",
+            "exec 1 [1000000] memory",
+        ),
         ("exec --store a.db", "exec 4 [1000] store a.db"),
         ("exec --store=a=b", "exec 4 [1000] store a=b"),
         ("exec --journal j --workers 9", "exec 9 [1000] journal j"),
@@ -98,7 +105,10 @@ fn words_are_read(rt: HostRuntime) -> Result<(), Fail> {
             "demo --workers 2 --events 100000 --seed=4294967295",
             "demo 4294967295 100000 2",
         ),
-        ("serve --port 1 --connections 1", "serve 1 1 4 [1000] memory"),
+        (
+            "serve --port 1 --connections 1",
+            "serve 1 1 4 [1000] memory",
+        ),
         (
             "serve --connections=1000000 --batches 5 --port=65535 --journal j --workers 3",
             "serve 65535 1000000 3 [5] journal j",
@@ -204,7 +214,10 @@ fn paths_are_given(rt: HostRuntime) -> Result<(), Fail> {
     ];
     for (line, store, journal) in cases {
         let found = paths(rt.alloc(), line)?;
-        assert!(rt; is_path(&found.0, store) && is_path(&found.1, journal), "{line}");
+        assert!(rt;
+            is_path(&found.0, store) && is_path(&found.1, journal),
+            "{line}"
+        );
     }
     Ok(())
 }

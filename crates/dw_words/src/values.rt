@@ -66,7 +66,11 @@ pub fn is_place(store: Option<&str>, journal: Option<&str>) -> bool
 }
 
 /// The place that the values for `store` and `journal` name.
-pub fn read_place(alloc: Global, store: Option<&str>, journal: Option<&str>) -> Result<Option<Place>, OutOfMemory>
+pub fn read_place(
+    alloc: Global,
+    store: Option<&str>,
+    journal: Option<&str>,
+) -> Result<Option<Place>, OutOfMemory>
     ensures { IfOk result (λ p. p ≡ place (option_map (λ s. s.now) store.entry) (option_map (λ s. s.now) journal.entry)) }
 {
     match (store, journal) {

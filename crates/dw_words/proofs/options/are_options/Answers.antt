@@ -7,11 +7,11 @@ use Rattle.dw_words.proofs.options.are_options.Goals.{then-not-takes-via-then-no
 pub returns-then-not-takes : goal.returns-then-not-takes
 returns-then-not-takes c =
     elim c.then-not-takes.branch [
-    | then-not-takes-via-then-not-takes w ↦
-        sym (c.loop-given.invariant ∙ not_taken (takes c.args.kind) c.loop-given.rest.now _ (sym c.in-Some.ensures) (sym w.if-not-takes.ensures))
-    | then-not-takes-via-else-not-takes+then-is_some w ↦
-        sym (c.loop-given.invariant ∙ given_twice (takes c.args.kind) c.loop-given.rest.now _ (sym c.in-Some.ensures)
-        (λ some. lent_is w.value_of.result _ true (w.value_of.ensures some) (sym w.if-is_some.ensures)))
+      | then-not-takes-via-then-not-takes w ↦
+          sym (c.loop-given.invariant ∙ not_taken (takes c.args.kind) c.loop-given.rest.now _ (sym c.in-Some.ensures) (sym w.if-not-takes.ensures))
+      | then-not-takes-via-else-not-takes+then-is_some w ↦
+          sym (c.loop-given.invariant ∙ given_twice (takes c.args.kind) c.loop-given.rest.now _ (sym c.in-Some.ensures)
+          (λ some. lent_is w.value_of.result _ true (w.value_of.ensures some) (sym w.if-is_some.ensures)))
     ]
 
 pub loop-given-preserved : goal.loop-given-preserved

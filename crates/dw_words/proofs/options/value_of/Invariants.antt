@@ -1,4 +1,4 @@
-use Rattle.std.proofs.Common.{◌≡◌, List, length, IsSome}
+use Rattle.std.proofs.Common.{◌≡◌, length, IsSome}
 use Rattle.dw_words.specs.Options.{options, value_in}
 use Rattle.dw_words.proofs.options.value_of.Given as goal
 
