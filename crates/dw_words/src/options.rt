@@ -21,7 +21,7 @@ struct Named<'a> {
 }
 
 /// `name` or `name=value`.
-fn name_and_value<'a>(text: &'a str) -> Named<'a>
+fn name_and_value(text: &str) -> Named<'_>
     ensures { (result.name.now, option_map (λ s. s.now) result.value) ≡ parts_at_equals text.entry.now }
 {
     match text.split_once('=') {
@@ -37,7 +37,7 @@ fn name_and_value<'a>(text: &'a str) -> Named<'a>
 }
 
 /// `--name` or `--name=value`.
-fn read_name<'a>(word: &'a str) -> Option<Named<'a>>
+fn read_name(word: &str) -> Option<Named<'_>>
     ensures { option_map (λ n. (n.name.now, option_map (λ s. s.now) n.value)) result ≡ long_of word.entry.now }
 {
     let text = after_hyphen(after_hyphen(word)?)?;
@@ -76,7 +76,7 @@ fn with_value<'a>(name: &'a str, value: &'a str, rest: &'a [Text]) -> Option<Giv
 }
 
 /// The first option of words, and the words after it; None where they begin with none.
-fn first_option<'a>(words: &'a [Text]) -> Option<Given<'a>>
+fn first_option(words: &[Text]) -> Option<Given<'_>>
     ensures { option_map (λ g. (g.name.now, (g.value.now, g.rest.now))) result ≡ option_at_front words.entry.now }
 {
     let (word, rest) = words.split_first()?;

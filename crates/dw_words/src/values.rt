@@ -114,7 +114,7 @@ fn are_numbers(text: &str) -> bool
 }
 
 /// The value for `batches`, or what stands for none.
-fn batches_text<'a>(value: Option<&'a str>) -> &'a str
+fn batches_text(value: Option<&str>) -> &str
     ensures { result.now ≡ batches_in (option_map (λ s. s.now) value.entry) }
 {
     value.unwrap_or("1000")
